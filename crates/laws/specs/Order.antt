@@ -1,0 +1,84 @@
+-- The order of lists of numbers, first element most significant: a comparison, and what it hands on where the two are equal. Assumes nothing.
+use mathlib.Core.Path.{_≡_, _∙_, subst, sym, refl, ap}
+use mathlib.Core.Logic.{_⊎_, inl, inr}
+use mathlib.Core.Bool.{Bool, true, false}
+use mathlib.Core.List.{List, [], _∷_}
+use Prim.Native.Nat.{ℕ, zero, suc, _+_, _<_, _≤_, compare, Ordering, Ordering·lt, Ordering·eq, Ordering·gt}
+use native.Mathlib.Omega.{arith}
+use lib.Dec.{T, isLe, isEq, leb→le, le→leb, eqb→eq, eqb-refl}
+
+-- smaller: yes; equal: as the rest says; greater: no
+abbrev pub pick3 : Ordering → Bool → Bool
+pick3 Ordering·lt b = true
+pick3 Ordering·eq b = b
+pick3 Ordering·gt b = false
+
+-- lexicographic, the first element most significant
+abbrev pub lexLe : List ℕ → List ℕ → Bool
+lexLe [] w = true
+lexLe (x ∷ v) [] = false
+lexLe (x ∷ v) (y ∷ w) = pick3 (compare x y) (lexLe v w)
+
+abbrev pub lexLt : List ℕ → List ℕ → Bool
+lexLt [] w = false
+lexLt (x ∷ v) [] = false
+lexLt (x ∷ v) (y ∷ w) = pick3 (compare x y) (lexLt v w)
+
+-- ---- laws
+pub pick3-out : (a b : ℕ) (p : Bool) → T (pick3 (compare a b) p) → (a < b) ⊎ ((a ≡ b) × T p)
+pick3-out a b p t = go (compare a b) refl t
+  where
+    go : (o : Ordering) → compare a b ≡ o → T (pick3 o p) → (a < b) ⊎ ((a ≡ b) × T p)
+    go Ordering·lt e t = inl (omega (arith, leb→le a b (subst (λ (o : Ordering). T (isLe o)) (sym e) tt), differ))
+      where
+        differ : a ≡ b → ⊥
+        differ q = subst (λ (o : Ordering). T (isEq o)) e (subst (λ (m : ℕ). T (isEq (compare a m))) q (eqb-refl a))
+    go Ordering·eq e t = inr (eqb→eq a b (subst (λ (o : Ordering). T (isEq o)) (sym e) tt), t)
+    go Ordering·gt e t = absurd t
+
+-- a comparison of a smaller number, of an equal one, of a greater one
+pub pick3-less : (a b : ℕ) (p : Bool) → a < b → pick3 (compare a b) p ≡ true
+pick3-less a b p h = go (compare a b) refl
+  where
+    go : (o : Ordering) → compare a b ≡ o → pick3 o p ≡ true
+    go Ordering·lt e = refl
+    go Ordering·eq e = absurd (omega (arith, eqb→eq a b (subst (λ (o : Ordering). T (isEq o)) (sym e) tt)))
+    go Ordering·gt e = absurd (subst (λ (o : Ordering). T (isLe o)) e (le→leb a b (omega arith)))
+
+pub pick3-same : (a b : ℕ) (p : Bool) → a ≡ b → pick3 (compare a b) p ≡ p
+pick3-same a b p q = go (compare a b) refl
+  where
+    go : (o : Ordering) → compare a b ≡ o → pick3 o p ≡ p
+    go Ordering·lt e = absurd (subst (λ (o : Ordering). T (isEq o)) e (subst (λ (m : ℕ). T (isEq (compare a m))) q (eqb-refl a)))
+    go Ordering·eq e = refl
+    go Ordering·gt e = absurd (subst (λ (o : Ordering). T (isLe o)) e (le→leb a b (omega arith)))
+
+pub pick3-more : (a b : ℕ) (p : Bool) → b < a → pick3 (compare a b) p ≡ false
+pick3-more a b p h = go (compare a b) refl
+  where
+    go : (o : Ordering) → compare a b ≡ o → pick3 o p ≡ false
+    go Ordering·lt e = absurd (omega (arith, leb→le a b (subst (λ (o : Ordering). T (isLe o)) (sym e) tt)))
+    go Ordering·eq e = absurd (omega (arith, eqb→eq a b (subst (λ (o : Ordering). T (isEq o)) (sym e) tt)))
+    go Ordering·gt e = refl
+
+pub pick3-lt : (a b : ℕ) (p : Bool) → a < b → T (pick3 (compare a b) p)
+pick3-lt a b p h = subst T (sym (pick3-less a b p h)) tt
+
+pub pick3-eq : (a b : ℕ) (p : Bool) → a ≡ b → T p → T (pick3 (compare a b) p)
+pick3-eq a b p q t = subst T (sym (pick3-same a b p q)) t
+
+pub pick3-trans : (a b c : ℕ) (p q r : Bool) → (T p → T q → T r) → T (pick3 (compare a b) p) → T (pick3 (compare b c) q)
+    → T (pick3 (compare a c) r)
+pick3-trans a b c p q r f s t = go (pick3-out a b p s) (pick3-out b c q t)
+  where
+    go : (a < b) ⊎ ((a ≡ b) × T p) → (b < c) ⊎ ((b ≡ c) × T q) → T (pick3 (compare a c) r)
+    go (inl x) (inl y) = pick3-lt a c r (omega arith)
+    go (inl x) (inr y) = pick3-lt a c r (omega (arith, y .0))
+    go (inr x) (inl y) = pick3-lt a c r (omega (arith, x .0))
+    go (inr x) (inr y) = pick3-eq a c r (x .0 ∙ y .0) (f (x .1) (y .1))
+
+pub lexLt-trans : (u v w : List ℕ) → T (lexLt u v) → T (lexLt v w) → T (lexLt u w)
+lexLt-trans [] v w s t = absurd s
+lexLt-trans (x ∷ u) [] w s t = absurd s
+lexLt-trans (x ∷ u) (y ∷ v) [] s t = absurd t
+lexLt-trans (x ∷ u) (y ∷ v) (z ∷ w) s t = pick3-trans x y z (lexLt u v) (lexLt v w) (lexLt u w) (lexLt-trans u v w) s t

@@ -1,0 +1,107 @@
+-- Tests: what a computed Bool says, joined tests, and a test at every number below n.
+-- `T b` (lib.Dec) holds exactly where b is true. Assumes nothing.
+use mathlib.Core.Path.{_≡_, refl, ap, sym, subst}
+use mathlib.Core.Bool.{Bool, true, false, not, cond, _&&_, _||_, Bool·beq}
+use mathlib.Core.Logic.{_⊎_, inl, inr, ⊎-elim}
+use Prim.Native.Nat.{ℕ, zero, suc, _+_, _<_, _≤_}
+use native.Mathlib.Nat.{not-suc-le-zero, le-of-suc-le-suc}
+use native.Mathlib.Omega.{arith}
+use borrow.Author.Tests.{ltb-true, ltb-false, eqb-true, eqb-false}
+use lib.Dec.{T, ltb, eqb, eqb-refl}
+
+-- ---- joined tests
+pub and-left : (a b : Bool) → T (a && b) → T a
+and-left true b t = tt
+and-left false b t = t
+
+pub and-right : (a b : Bool) → T (a && b) → T b
+and-right true b t = t
+and-right false b t = absurd t
+
+pub and-in : (a b : Bool) → T a → T b → T (a && b)
+and-in true b s t = t
+and-in false b s t = s
+
+-- four tests joined, taken apart
+pub split4 : (a b c d : Bool) → T (a && (b && (c && d))) → T a × T b × T c × T d
+split4 true true true true t = (tt, tt, tt, tt)
+split4 true true true false t = absurd t
+split4 true true false d t = absurd t
+split4 true false c d t = absurd t
+split4 false b c d t = absurd t
+
+pub or-else : (a b : Bool) → T (a || b) → (T a → ⊥) → T b
+or-else true b t n = absurd (n tt)
+or-else false b t n = t
+
+-- c, where b holds
+abbrev pub implies : Bool → Bool → Bool
+implies b c = elim b [ true ↦ c | false ↦ true ]
+
+pub modus : (b c : Bool) → T b → T (implies b c) → T c
+modus true c h t = t
+modus false c h t = absurd h
+
+pub beq-eq : (a b : Bool) → T (Bool·beq a b) → a ≡ b
+beq-eq true true t = refl
+beq-eq true false t = absurd t
+beq-eq false true t = absurd t
+beq-eq false false t = refl
+
+-- ---- a test and its truth
+pub is-true : (b : Bool) → T b → b ≡ true
+is-true true t = refl
+is-true false t = absurd t
+
+pub is-false : (b : Bool) → (T b → ⊥) → b ≡ false
+is-false true n = absurd (n tt)
+is-false false n = refl
+
+pub true-is : (b : Bool) → b ≡ true → T b
+true-is b e = subst T (sym e) tt
+
+pub eq→eqb : (a b : ℕ) → a ≡ b → T (eqb a b)
+eq→eqb a b e = subst (λ (x : ℕ). T (eqb a x)) e (eqb-refl a)
+
+-- ---- a Bool that says whether P holds
+unfoldable pub Says : Bool → Type 0 → Type 0
+Says true P = P
+Says false P = P → ⊥
+
+pub says-by : (b : Bool) (P : Type 0) → (b ≡ true → P) → (b ≡ false → P → ⊥) → Says b P
+unfolding Says
+says-by true P p q = p refl
+says-by false P p q = q refl
+
+pub says-or : (p q : Bool) (P Q : Type 0) → Says p P → Says q Q → Says (p || q) (P ⊎ Q)
+unfolding Says
+says-or true q P Q x y = inl x
+says-or false true P Q x y = inr y
+says-or false false P Q x y = ⊎-elim x y
+
+pub says-and : (p q : Bool) (P Q : Type 0) → Says p P → Says q Q → Says (p && q) (P × Q)
+unfolding Says
+says-and true true P Q x y = (x, y)
+says-and true false P Q x y = λ w. y (w .1)
+says-and false q P Q x y = λ w. x (w .0)
+
+pub says-lt : (x y : ℕ) → Says (ltb x y) (x < y)
+says-lt x y = says-by (ltb x y) (x < y) (ltb-true x y) (λ e h. omega (arith, ltb-false x y e))
+
+pub says-eq : (x y : ℕ) → Says (eqb x y) (x ≡ y)
+says-eq x y = says-by (eqb x y) (x ≡ y) (eqb-true x y) (eqb-false x y)
+
+-- ---- the test passes at 0, 1, .., n - 1
+abbrev pub upto : ℕ → (ℕ → Bool) → Bool
+upto zero f = true
+upto (suc n) f = f 0 && upto n (λ (k : ℕ). f (suc k))
+
+pub below : (n : ℕ) (f : ℕ → Bool) → T (upto n f) → (k : ℕ) → k < n → T (f k)
+below zero f t k h = absurd (not-suc-le-zero h)
+below (suc n) f t zero h = and-left (f 0) (upto n (λ (k : ℕ). f (suc k))) t
+below (suc n) f t (suc k) h =
+    below n (λ (m : ℕ). f (suc m)) (and-right (f 0) (upto n (λ (m : ℕ). f (suc m))) t) k (le-of-suc-le-suc h)
+
+-- the same in two numbers
+pub below2 : (n m : ℕ) (f : ℕ → ℕ → Bool) → T (upto n (λ (a : ℕ). upto m (f a))) → (a b : ℕ) → a < n → b < m → T (f a b)
+below2 n m f t a b ha hb = below m (f a) (below n (λ (x : ℕ). upto m (f x)) t a ha) b hb

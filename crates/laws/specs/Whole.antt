@@ -1,0 +1,88 @@
+-- Whole numbers with a sign: quotient and remainder from the floor, equality as a test, magnitudes. Assumes nothing.
+use mathlib.Core.Path.{_≡_, refl, ap, sym, _∙_}
+use mathlib.Core.Bool.{Bool, true, false, cond}
+use Prim.Native.Nat.{ℕ, zero, suc, _+_, _*_, _-_, _/_, _%_, _^_, _<_, _≤_}
+use native.Mathlib.Omega.{arith}
+use borrow.Author.Tests.{ltb-true, ltb-false}
+use lib.Dec.{T, ltb, eqb, eqb→eq}
+use lib.IntN.{ℤ, pos, negsuc, negℤ, subℕ, _+ℤ_, _*ℤ_}
+use lib.Signed.{mag, shrZ}
+use mir.Syntax.{w32}
+use mir.Val.{SFits, ofZ}
+
+-- quotient and remainder from the floor: -3 = 1 + 4 * -1
+abbrev pub modZ : ℤ → ℕ → ℕ
+modZ (pos n) m = n % m
+modZ (negsuc n) m = m - 1 - n % m
+
+abbrev pub divZ : ℤ → ℕ → ℤ
+divZ (pos n) m = pos (n / m)
+divZ (negsuc n) m = negsuc (n / m)
+
+abbrev pub eqZ : ℤ → ℤ → Bool
+eqZ (pos a) (pos b) = eqb a b
+eqZ (pos a) (negsuc b) = false
+eqZ (negsuc a) (pos b) = false
+eqZ (negsuc a) (negsuc b) = eqb a b
+
+pub eqZ→eq : (a b : ℤ) → T (eqZ a b) → a ≡ b
+eqZ→eq (pos a) (pos b) t = ap pos (eqb→eq a b t)
+eqZ→eq (pos a) (negsuc b) t = absurd t
+eqZ→eq (negsuc a) (pos b) t = absurd t
+eqZ→eq (negsuc a) (negsuc b) t = ap negsuc (eqb→eq a b t)
+
+-- ---- remainders
+pub mod2-lt : (y : ℤ) → modZ y 2 < 2
+mod2-lt (pos n) = omega arith
+mod2-lt (negsuc n) = omega arith
+
+pub mod4-lt : (y : ℤ) → modZ y 4 < 4
+mod4-lt (pos n) = omega arith
+mod4-lt (negsuc n) = omega arith
+
+mod-cond : (b : Bool) (x y : ℤ) (k : ℕ) → (b ≡ true → modZ x 2 ≡ k) → (b ≡ false → modZ y 2 ≡ k) → modZ (cond b x y) 2 ≡ k
+mod-cond true x y k p q = p refl
+mod-cond false x y k p q = q refl
+
+mod-sub : (a b : ℕ) → modZ (subℕ a b) 2 ≡ (a + b) % 2
+mod-sub a b =
+    mod-cond (ltb a b) (negsuc (b - suc a)) (pos (a - b)) ((a + b) % 2)
+    (λ (e : ltb a b ≡ true). omega (arith, ltb-true a b e)) (λ (e : ltb a b ≡ false). omega (arith, ltb-false a b e))
+
+-- the parity of a sum
+pub parity-add : (a b : ℤ) → modZ (a +ℤ b) 2 ≡ (modZ a 2 + modZ b 2) % 2
+parity-add (pos a) (pos b) = omega arith
+parity-add (pos a) (negsuc b) = mod-sub a (suc b) ∙ omega arith
+parity-add (negsuc a) (pos b) = mod-sub b (suc a) ∙ omega arith
+parity-add (negsuc a) (negsuc b) = omega arith
+
+-- ---- bits: the low two bits of a number are its remainder by 4, a shift to the right is its quotient
+pub low2 : (y : ℤ) → SFits w32 y → ofZ w32 y % 2 ^ 2 ≡ modZ y 4
+low2 (pos n) f = refl
+low2 (negsuc n) f = omega arith
+
+pub shr-div : (y : ℤ) (m : ℕ) → shrZ y m ≡ divZ y m
+shr-div (pos n) m = refl
+shr-div (negsuc n) m = refl
+
+-- ---- magnitudes of sums and products
+mag-cond : (b : Bool) (x y : ℤ) (k : ℕ) → (b ≡ true → mag x ≤ k) → (b ≡ false → mag y ≤ k) → mag (cond b x y) ≤ k
+mag-cond true x y k p q = p refl
+mag-cond false x y k p q = q refl
+
+mag-sub : (a b : ℕ) → mag (subℕ a b) ≤ a + b
+mag-sub a b = mag-cond (ltb a b) (negsuc (b - suc a)) (pos (a - b)) (a + b) (λ e. omega arith) (λ e. omega arith)
+
+pub mag-add : (a b : ℤ) → mag (a +ℤ b) ≤ mag a + mag b + 1
+mag-add (pos a) (pos b) = omega arith
+mag-add (pos a) (negsuc b) = omega (arith, mag-sub a (suc b))
+mag-add (negsuc a) (pos b) = omega (arith, mag-sub b (suc a))
+mag-add (negsuc a) (negsuc b) = omega arith
+
+mag-neg : (n : ℕ) → mag (negℤ (pos n)) ≤ n
+mag-neg zero = omega arith
+mag-neg (suc n) = omega arith
+
+pub mag-mul4 : (k : ℤ) → mag (pos 4 *ℤ k) ≤ 4 * mag k + 4
+mag-mul4 (pos n) = omega arith
+mag-mul4 (negsuc n) = omega (arith, mag-neg (4 * suc n))

@@ -1,0 +1,1 @@
+// Coordinates and rank vectors.
