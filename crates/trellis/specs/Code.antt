@@ -27,6 +27,16 @@ codewords = tab (wordOf columns) 4096
 abbrev pub label : ℕ → ℕ → ℕ → ℕ → ℕ
 label s8 b1 b2 b3 = s8 + 64 * b1 + 128 * b2 + 2048 * b3
 
+-- ---- sections: the bytes c1, c2, c3 of a word c1 + 256 c2 + 65536 c3
+abbrev pub first : ℕ → ℕ
+first w = w % 256
+
+abbrev pub second : ℕ → ℕ
+second w = w / 256 % 256
+
+abbrev pub third : ℕ → ℕ
+third w = w / 65536
+
 -- ---- weight: the set bits among the d low ones
 abbrev pub weight : ℕ → ℕ → ℕ
 weight zero w = 0

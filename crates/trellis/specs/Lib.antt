@@ -5,3 +5,4 @@ pub mod Trellis
 pub mod Linear
 pub mod Words
 pub mod CodeLaws
+pub mod Path

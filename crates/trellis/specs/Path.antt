@@ -1,0 +1,122 @@
+-- Each codeword is its path through the tables; the bytes of a state ascend, its two prefixes and its two suffixes are complementary.
+-- Assumes nothing.
+use mathlib.Core.Path.{_≡_, _∙_, subst, sym, refl, ap, ap₂}
+use mathlib.Core.Bool.{Bool, true, false, _&&_}
+use mathlib.Core.List.{List, [], _∷_}
+use Prim.Native.Nat.{ℕ, zero, suc, _+_, _*_, _-_, _/_, _%_, _^_, _<_, _≤_}
+use native.Mathlib.Nat.{mod-lt, zero-lt-suc, min-le-left}
+use native.Mathlib.Decide.{ℕ-discrete}
+use native.Mathlib.Omega.{arith}
+use borrow.Author.Tests.{ltb-true, ltb-false}
+use lib.Dec.{T, eqb, ltb, eqb→eq, ltb→lt}
+use lib.ListN.{length, getD, take, drop, length-take, length-drop, drop-of-length-le, List·getD-eq-default}
+use lib.Seq.{getD-take, getD-drop, length-take-le, take-nil}
+use lib.Pow.{pow-pos}
+use lib.Bits.{bitXor}
+use Rattle.laws.specs.Tests.{and-left, and-right, upto, below}
+use Rattle.laws.specs.Tables.{every, ascBy, asc-lt}
+use Rattle.laws.specs.Trees.{Tree, build, get, get-build}
+use Rattle.trellis.specs.Code.{wordOf, columns, first, second, third}
+use Rattle.trellis.specs.Tables.{prefixes, middles, nexts, suffixes}
+use Rattle.trellis.specs.Trellis.{row, prefixOf, middleOf, nextOf, suffixOf, path, s8Of, b1Of, b2Of, b3Of, s16Of}
+use Rattle.trellis.specs.Linear.{allBelow}
+use Rattle.trellis.specs.Words.{words, at-word}
+use Rattle.trellis.specs.CodeLaws.{label-low}
+
+-- ---- rows of a table
+pub row-at : (n : ℕ) (t : List ℕ) (s b : ℕ) → b < n → getD (row n t s) b 0 ≡ getD t (n * s + b) 0
+row-at n t s b h = getD-take n (drop (n * s) t) b 0 h ∙ getD-drop (n * s) t b 0
+
+pub row-length : (n : ℕ) (t : List ℕ) (s : ℕ) → n * s + n ≤ length t → length (row n t s) ≡ n
+row-length n t s h = length-take-le n (drop (n * s) t) (omega (arith, length-drop (n * s) t))
+
+pub row-none : (n : ℕ) (t : List ℕ) (s : ℕ) → length t ≤ n * s → row n t s ≡ []
+row-none n t s h = ap (take n) (drop-of-length-le t h) ∙ take-nil n
+
+-- every entry of a row is an entry of the table, or 0
+row-entry : (P : ℕ → Type 0) (n : ℕ) (t : List ℕ) (s b : ℕ) → P 0 → ((i : ℕ) → P (getD t i 0)) → P (getD (row n t s) b 0)
+row-entry P n t s b z p = go (ltb b n) refl
+  where
+    go : (q : Bool) → ltb b n ≡ q → P (getD (row n t s) b 0)
+    go true e = rw (row-at n t s b (ltb-true b n e)) (p (n * s + b))
+    go false e =
+        subst P
+        (sym (List·getD-eq-default (row n t s) 0 (omega (arith, length-take n (drop (n * s) t), min-le-left n (length (drop (n * s) t)), ltb-false b n e)))) z
+
+entry-lt : (k : ℕ) (t : List ℕ) → T (allBelow k t) → (i : ℕ) → getD t i 0 < 2 ^ k
+entry-lt k [] a i = pow-pos k
+entry-lt k (x ∷ t) a zero = ltb→lt x (2 ^ k) (and-left (ltb x (2 ^ k)) (allBelow k t) a)
+entry-lt k (x ∷ t) a (suc i) = entry-lt k t (and-right (ltb x (2 ^ k)) (allBelow k t) a) i
+
+-- ---- bytes are below 256, states below 64
+prefixes-below : T (allBelow 8 prefixes)
+unfolding prefixes
+prefixes-below = tt
+
+middles-below : T (allBelow 8 middles)
+unfolding middles
+middles-below = tt
+
+nexts-below : T (allBelow 6 nexts)
+unfolding nexts
+nexts-below = tt
+
+suffixes-below : T (allBelow 8 suffixes)
+unfolding suffixes
+suffixes-below = tt
+
+pub prefix-lt : (s8 b1 : ℕ) → prefixOf s8 b1 < 256
+unfolding prefixOf
+prefix-lt s b = row-entry (λ (x : ℕ). x < 256) 2 prefixes s b (pow-pos 8) (entry-lt 8 prefixes prefixes-below)
+
+pub middle-lt : (s8 b2 : ℕ) → middleOf s8 b2 < 256
+unfolding middleOf
+middle-lt s b = row-entry (λ (x : ℕ). x < 256) 16 middles s b (pow-pos 8) (entry-lt 8 middles middles-below)
+
+pub next-lt : (s8 b2 : ℕ) → nextOf s8 b2 < 64
+unfolding nextOf
+next-lt s b = row-entry (λ (x : ℕ). x < 64) 16 nexts s b (pow-pos 6) (entry-lt 6 nexts nexts-below)
+
+pub suffix-lt : (s16 b3 : ℕ) → suffixOf s16 b3 < 256
+unfolding suffixOf
+suffix-lt s b = row-entry (λ (x : ℕ). x < 256) 2 suffixes s b (pow-pos 8) (entry-lt 8 suffixes suffixes-below)
+
+-- ---- each word is its path: one test along the words, the tables read as trees
+prefixTree : Tree
+prefixTree = build 7 prefixes
+
+middleTree : Tree
+middleTree = build 10 middles
+
+nextTree : Tree
+nextTree = build 10 nexts
+
+suffixTree : Tree
+suffixTree = build 7 suffixes
+
+treePath : ℕ → ℕ
+treePath x =
+    get 7 prefixTree (2 * s8Of x + b1Of x) + 256 * get 10 middleTree (16 * s8Of x + b2Of x)
+    + 65536 * get 7 suffixTree (2 * get 10 nextTree (16 * s8Of x + b2Of x) + b3Of x)
+
+onPath : ℕ → ℕ → Bool
+onPath x w = eqb w (treePath x)
+
+all-on-path : T (every onPath 0 words)
+unfolding onPath treePath prefixTree middleTree nextTree suffixTree prefixes middles nexts suffixes words
+all-on-path = tt
+
+read : (d n : ℕ) (t : List ℕ) (s b : ℕ) → b < n → n * s + b < 2 ^ d → get d (build d t) (n * s + b) ≡ getD (row n t s) b 0
+read d n t s b h k = get-build d t (n * s + b) k ∙ sym (row-at n t s b h)
+
+tree-path : (x : ℕ) → treePath x ≡ path (s8Of x) (b1Of x) (b2Of x) (b3Of x)
+unfolding treePath prefixTree middleTree nextTree suffixTree prefixOf middleOf nextOf suffixOf
+tree-path x =
+    rw (read 7 2 prefixes (s8Of x) (b1Of x) (omega arith) (omega arith)
+    , read 10 16 middles (s8Of x) (b2Of x) (omega arith) (omega arith)
+    , read 10 16 nexts (s8Of x) (b2Of x) (omega arith) (omega arith)
+    , read 7 2 suffixes (s16Of x) (b3Of x) (omega arith) (omega (arith, next-lt (s8Of x) (b2Of x))))
+
+pub path-at : (x : ℕ) → x < 4096 → wordOf columns x ≡ path (s8Of x) (b1Of x) (b2Of x) (b3Of x)
+unfolding onPath
+path-at x h = eqb→eq (wordOf columns x) (treePath x) (at-word onPath all-on-path x h) ∙ tree-path x
