@@ -9,7 +9,7 @@ use Rattle.laws.specs.Lists.{tab}
 
 -- ---- codewords
 -- column i belongs to bit i of a label
-abbrev pub columns : List ℕ
+unfoldable pub columns : List ℕ
 columns =
     0x2d002e ∷ 0x3a005a ∷ 0x740033 ∷ 0x03061e ∷ 0x050963 ∷ 0x090578 ∷ 0x0000ff ∷ 0x2d1d00 ∷ 0x3a2b00 ∷ 0x744700 ∷ 0x638e00
     ∷ 0xff0000 ∷ []

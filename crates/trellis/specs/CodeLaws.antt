@@ -18,9 +18,11 @@ use Rattle.trellis.specs.Words.{words, codewords-are, at-word}
 
 -- the bits of a label past the twelfth say nothing
 pub label-low : (x : ℕ) → wordOf columns (x % 4096) ≡ wordOf columns x
+unfolding columns
 label-low x = word-low columns x
 
 pub word-lt : (x : ℕ) → wordOf columns x < 2 ^ 24
+unfolding columns
 word-lt x = word-below 24 columns tt x
 
 -- what holds at each label below 4096 holds at every label
@@ -28,11 +30,12 @@ all-labels : (P : ℕ → Type 0) → ((x : ℕ) → x < 4096 → P (wordOf colu
 all-labels P p x = subst P (label-low x) (p (x % 4096) (mod-lt x (zero-lt-suc 4095)))
 
 -- ---- distinct: a codeword gives its label back, by columns of its own
-abbrev pub backColumns : List ℕ
+unfoldable pub backColumns : List ℕ
 backColumns =
     0xe55 ∷ 0x7d8 ∷ 0xced ∷ 0x1ce ∷ 0xb73 ∷ 0x2fa ∷ 0xd67 ∷ 0 ∷ 0xb80 ∷ 0xf00 ∷ 0x680 ∷ 0x580 ∷ 0 ∷ 0 ∷ 0 ∷ 0 ∷ 0x800 ∷ []
 
 back-columns : map (wordOf backColumns) columns ≡ powers 0 12
+unfolding backColumns columns
 back-columns = refl
 
 pub back-at : (x : ℕ) → wordOf backColumns (wordOf columns x) ≡ x % 4096
@@ -40,6 +43,7 @@ back-at x =
     compose backColumns columns x ∙ ap (λ (cs : List ℕ). wordOf cs x) back-columns ∙ powers-word 12 0 x ∙ mul-one (x % 4096)
 
 pub back-lt : (w : ℕ) → wordOf backColumns w < 4096
+unfolding backColumns
 back-lt w = word-below 12 backColumns tt w
 
 pub distinct : (x y : ℕ) → x < 4096 → y < 4096 → wordOf columns x ≡ wordOf columns y → x ≡ y
@@ -48,7 +52,7 @@ distinct x y hx hy e =
 
 -- ---- weights
 words-weights : map (λ (k : ℕ). tally k (map (weight 24) words)) (0 ∷ 8 ∷ 12 ∷ 16 ∷ 24 ∷ []) ≡ 1 ∷ 759 ∷ 2576 ∷ 759 ∷ 1 ∷ []
-unfolding words
+unfolding words columns
 words-weights = refl
 
 pub weights : map (λ (k : ℕ). tally k (map (weight 24) codewords)) (0 ∷ 8 ∷ 12 ∷ 16 ∷ 24 ∷ []) ≡ 1 ∷ 759 ∷ 2576 ∷ 759 ∷ 1 ∷ []
@@ -77,7 +81,7 @@ fair : ℕ → ℕ → Bool
 fair x w = (eqb x 0 || leb 8 (weight 24 w)) && (five (weight 24 w) && eqb (odds w) 0)
 
 all-fair : T (every fair 0 words)
-unfolding fair words
+unfolding fair words columns
 all-fair = tt
 
 fair-at : (x : ℕ) → x < 4096

@@ -2,7 +2,9 @@ pub mod Code
 pub mod Trio
 pub mod Tables
 pub mod Trellis
+pub mod Cuts
 pub mod Linear
 pub mod Words
 pub mod CodeLaws
 pub mod Path
+pub mod States

@@ -4,7 +4,7 @@ use mathlib.Core.Path.{_≡_, _∙_, subst, sym, refl, ap, ap₂}
 use mathlib.Core.Bool.{Bool, true, false, _&&_}
 use mathlib.Core.List.{List, [], _∷_}
 use Prim.Native.Nat.{ℕ, zero, suc, _+_, _*_, _-_, _/_, _%_, _^_, _<_, _≤_}
-use native.Mathlib.Nat.{mod-lt, zero-lt-suc, min-le-left}
+use native.Mathlib.Nat.{mod-lt, zero-lt-suc, le-of-suc-le-suc, min-le-left}
 use native.Mathlib.Decide.{ℕ-discrete}
 use native.Mathlib.Omega.{arith}
 use borrow.Author.Tests.{ltb-true, ltb-false}
@@ -103,7 +103,7 @@ onPath : ℕ → ℕ → Bool
 onPath x w = eqb w (treePath x)
 
 all-on-path : T (every onPath 0 words)
-unfolding onPath treePath prefixTree middleTree nextTree suffixTree prefixes middles nexts suffixes words
+unfolding onPath treePath prefixTree middleTree nextTree suffixTree prefixes middles nexts suffixes words columns
 all-on-path = tt
 
 read : (d n : ℕ) (t : List ℕ) (s b : ℕ) → b < n → n * s + b < 2 ^ d → get d (build d t) (n * s + b) ≡ getD (row n t s) b 0
@@ -117,6 +117,74 @@ tree-path x =
     , read 10 16 nexts (s8Of x) (b2Of x) (omega arith) (omega arith)
     , read 7 2 suffixes (s16Of x) (b3Of x) (omega arith) (omega (arith, next-lt (s8Of x) (b2Of x))))
 
-pub path-at : (x : ℕ) → x < 4096 → wordOf columns x ≡ path (s8Of x) (b1Of x) (b2Of x) (b3Of x)
+low-at : (x : ℕ) → x < 4096 → wordOf columns x ≡ path (s8Of x) (b1Of x) (b2Of x) (b3Of x)
 unfolding onPath
-path-at x h = eqb→eq (wordOf columns x) (treePath x) (at-word onPath all-on-path x h) ∙ tree-path x
+low-at x h = eqb→eq (wordOf columns x) (treePath x) (at-word onPath all-on-path x h) ∙ tree-path x
+
+-- for every label: bits past the twelfth change neither side
+pub path-at : (x : ℕ) → wordOf columns x ≡ path (s8Of x) (b1Of x) (b2Of x) (b3Of x)
+path-at x =
+    sym (label-low x) ∙ low-at (x % 4096) (mod-lt x (zero-lt-suc 4095))
+    ∙ ap₂ (λ (s b : ℕ). path s b (b2Of (x % 4096)) (b3Of (x % 4096))) (omega arith) (omega arith)
+    ∙ ap₂ (λ (b d : ℕ). path (s8Of x) (b1Of x) b d) (omega arith) (omega arith)
+
+-- the sections of a codeword
+sections : (a b c : ℕ) → a < 256 → b < 256 → (first (a + 256 * b + 65536 * c) ≡ a) × (second (a + 256 * b + 65536 * c) ≡ b)
+    × (third (a + 256 * b + 65536 * c) ≡ c)
+sections a b c ha hb = (omega arith, omega arith, omega arith)
+
+pub first-at : (x : ℕ) → first (wordOf columns x) ≡ prefixOf (s8Of x) (b1Of x)
+first-at x = ap first (path-at x) ∙ sections _ _ _ (prefix-lt (s8Of x) (b1Of x)) (middle-lt (s8Of x) (b2Of x)) .0
+
+pub second-at : (x : ℕ) → second (wordOf columns x) ≡ middleOf (s8Of x) (b2Of x)
+second-at x = ap second (path-at x) ∙ sections _ _ _ (prefix-lt (s8Of x) (b1Of x)) (middle-lt (s8Of x) (b2Of x)) .1
+
+pub third-at : (x : ℕ) → third (wordOf columns x) ≡ suffixOf (s16Of x) (b3Of x)
+third-at x = ap third (path-at x) ∙ sections _ _ _ (prefix-lt (s8Of x) (b1Of x)) (middle-lt (s8Of x) (b2Of x)) .2
+
+-- ---- the two bytes of a state: ascending, and each the other's complement
+abbrev pub Pair : (ℕ → ℕ → ℕ) → ℕ → Type 0
+Pair byte s = (byte s 0 < byte s 1) × (bitXor (byte s 0) (byte s 1) ≡ 255)
+
+pairOf : (ℕ → ℕ → ℕ) → ℕ → Bool
+pairOf byte s = ltb (byte s 0) (byte s 1) && eqb (bitXor (byte s 0) (byte s 1)) 255
+
+pair-of : (byte : ℕ → ℕ → ℕ) → T (upto 64 (pairOf byte)) → (s : ℕ) → s < 64 → Pair byte s
+unfolding pairOf
+pair-of byte t s h =
+    let a = ltb (byte s 0) (byte s 1) in
+    let b = eqb (bitXor (byte s 0) (byte s 1)) 255 in
+    let u = below 64 (pairOf byte) t s h in
+    (ltb→lt (byte s 0) (byte s 1) (and-left a b u), eqb→eq (bitXor (byte s 0) (byte s 1)) 255 (and-right a b u))
+
+prefix-pairs : T (upto 64 (pairOf prefixOf))
+unfolding pairOf prefixOf prefixes
+prefix-pairs = tt
+
+suffix-pairs : T (upto 64 (pairOf suffixOf))
+unfolding pairOf suffixOf suffixes
+suffix-pairs = tt
+
+pub prefix-pair : (s8 : ℕ) → s8 < 64 → Pair prefixOf s8
+prefix-pair = pair-of prefixOf prefix-pairs
+
+pub suffix-pair : (s16 : ℕ) → s16 < 64 → Pair suffixOf s16
+suffix-pair = pair-of suffixOf suffix-pairs
+
+-- ---- the sixteen middle bytes of a state ascend, and so are distinct
+pub middles-length : length middles ≡ 1024
+unfolding middles
+middles-length = refl
+
+fan : ℕ → Bool
+fan s = ascBy suc 0 (row 16 middles s)
+
+fans : T (upto 64 fan)
+unfolding fan middles
+fans = tt
+
+pub middle-up : (s8 : ℕ) → s8 < 64 → (a b : ℕ) → a < b → b < 16 → middleOf s8 a < middleOf s8 b
+unfolding fan middleOf
+middle-up s h a b l k =
+    let e : length (row 16 middles s) ≡ 16 = row-length 16 middles s (omega (arith, middles-length)) in
+    le-of-suc-le-suc (asc-lt suc 0 (row 16 middles s) (below 64 fan fans s h) a b l (omega arith))

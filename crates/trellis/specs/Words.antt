@@ -54,11 +54,11 @@ unfoldable pub words : List ℕ
 words = wordsOf columns
 
 pub codewords-are : codewords ≡ words
-unfolding codewords words
+unfolding codewords words columns
 codewords-are = sym (filled ℕ 0 4096 (wordOf columns) (wordsOf columns) (words-length columns) (words-at columns))
 
 -- a test that passes along the words passes at each label
 pub at-word : (f : ℕ → ℕ → Bool) → T (every f 0 words) → (x : ℕ) → x < 4096 → T (f x (wordOf columns x))
-unfolding words
+unfolding words columns
 at-word f t x h =
     subst (λ (w : ℕ). T (f x w)) (words-at columns x h) (at f (wordsOf columns) t x (subst (λ (n : ℕ). x < n) (sym (words-length columns)) h))
