@@ -88,7 +88,7 @@ prefixTree = build 7 prefixes
 middleTree : Tree
 middleTree = build 10 middles
 
-nextTree : Tree
+unfoldable pub nextTree : Tree
 nextTree = build 10 nexts
 
 suffixTree : Tree
@@ -109,12 +109,16 @@ all-on-path = tt
 read : (d n : ℕ) (t : List ℕ) (s b : ℕ) → b < n → n * s + b < 2 ^ d → get d (build d t) (n * s + b) ≡ getD (row n t s) b 0
 read d n t s b h k = get-build d t (n * s + b) k ∙ sym (row-at n t s b h)
 
+pub next-read : (x : ℕ) → get 10 nextTree (16 * s8Of x + b2Of x) ≡ s16Of x
+unfolding nextTree nextOf
+next-read x = read 10 16 nexts (s8Of x) (b2Of x) (omega arith) (omega arith)
+
 tree-path : (x : ℕ) → treePath x ≡ path (s8Of x) (b1Of x) (b2Of x) (b3Of x)
-unfolding treePath prefixTree middleTree nextTree suffixTree prefixOf middleOf nextOf suffixOf
+unfolding treePath prefixTree middleTree suffixTree prefixOf middleOf suffixOf
 tree-path x =
     rw (read 7 2 prefixes (s8Of x) (b1Of x) (omega arith) (omega arith)
     , read 10 16 middles (s8Of x) (b2Of x) (omega arith) (omega arith)
-    , read 10 16 nexts (s8Of x) (b2Of x) (omega arith) (omega arith)
+    , next-read x
     , read 7 2 suffixes (s16Of x) (b3Of x) (omega arith) (omega (arith, next-lt (s8Of x) (b2Of x))))
 
 low-at : (x : ℕ) → x < 4096 → wordOf columns x ≡ path (s8Of x) (b1Of x) (b2Of x) (b3Of x)
