@@ -1,6 +1,5 @@
 -- Lists: one that a loop fills place by place, one that a loop takes apart, one after another. Assumes nothing.
 use mathlib.Core.Path.{_≡_, refl, ap, ap₂, sym, _∙_}
-use mathlib.Core.Logic.{_⊎_, inl, inr}
 use mathlib.Core.Bool.{Bool, true, false, cond}
 use mathlib.Core.List.{List, [], _∷_, _++_}
 use Prim.Native.Nat.{ℕ, zero, suc, _+_, _-_, _<_, _≤_, suc-le-suc}
@@ -137,13 +136,20 @@ module _ (A : Type 0) (f : ℕ → A) (none : A) (xs : List ℕ) (c : ℕ) where
   look-none n =
       ap (λ (b : Bool). cond b (f (seek c xs)) none) (le-ltb (seek c xs) (length xs) (omega (arith, seek-none c xs n)))
 
-  -- there is no third answer
-  pub look-cases : ((i : ℕ) × (i < length xs) × (getD xs i 0 ≡ c) × (lookUp f none xs c ≡ f i))
-      ⊎ (((i : ℕ) → i < length xs → getD xs i 0 ≡ c → ⊥) × (lookUp f none xs c ≡ none))
-  look-cases = go (ltb (seek c xs) (length xs)) refl
+  -- what every place that answers v gives, v gives, where v is not `none`
+  pub look-out : (v : A) (Q : Type 0) → (none ≡ v → ⊥) → ((i : ℕ) → i < length xs → getD xs i 0 ≡ c → f i ≡ v → Q)
+      → lookUp f none xs c ≡ v → Q
+  look-out v Q n q = go (ltb (seek c xs) (length xs)) refl
     where
-      go : (b : Bool) → ltb (seek c xs) (length xs) ≡ b
-          → ((i : ℕ) × (i < length xs) × (getD xs i 0 ≡ c) × (cond b (f (seek c xs)) none ≡ f i))
-          ⊎ (((i : ℕ) → i < length xs → getD xs i 0 ≡ c → ⊥) × (cond b (f (seek c xs)) none ≡ none))
-      go true e = inl (seek c xs, ltb-true (seek c xs) (length xs) e, seek-holds c xs (ltb-true (seek c xs) (length xs) e), refl)
-      go false e = inr (λ i h q. omega (arith, seek-first c xs i h q, ltb-false (seek c xs) (length xs) e), refl)
+      go : (b : Bool) → ltb (seek c xs) (length xs) ≡ b → cond b (f (seek c xs)) none ≡ v → Q
+      go true e u = q (seek c xs) (ltb-true (seek c xs) (length xs) e) (seek-holds c xs (ltb-true (seek c xs) (length xs) e)) u
+      go false e u = absurd (n u)
+
+  -- `none` says that c stands nowhere
+  pub look-missing : ((i : ℕ) → f i ≡ none → ⊥) → lookUp f none xs c ≡ none → (i : ℕ) → i < length xs → getD xs i 0 ≡ c → ⊥
+  look-missing n = go (ltb (seek c xs) (length xs)) refl
+    where
+      go : (b : Bool) → ltb (seek c xs) (length xs) ≡ b → cond b (f (seek c xs)) none ≡ none
+          → (i : ℕ) → i < length xs → getD xs i 0 ≡ c → ⊥
+      go true e u i h q = n (seek c xs) u
+      go false e u i h q = omega (arith, seek-first c xs i h q, ltb-false (seek c xs) (length xs) e)

@@ -8,3 +8,4 @@ pub mod Words
 pub mod CodeLaws
 pub mod Path
 pub mod States
+pub mod Back
