@@ -9,3 +9,5 @@ pub mod CodeLaws
 pub mod Path
 pub mod States
 pub mod Back
+pub mod TrioLaws
+pub mod Numbering
