@@ -153,3 +153,12 @@ module _ (A : Type 0) (f : ℕ → A) (none : A) (xs : List ℕ) (c : ℕ) where
           → (i : ℕ) → i < length xs → getD xs i 0 ≡ c → ⊥
       go true e u i h q = n (seek c xs) u
       go false e u i h q = omega (arith, seek-first c xs i h q, ltb-false (seek c xs) (length xs) e)
+
+-- what g makes of the answer
+pub look-map : (A B : Type 0) (g : A → B) (f : ℕ → A) (none : A) (xs : List ℕ) (c : ℕ)
+    → g (lookUp f none xs c) ≡ lookUp (λ (i : ℕ). g (f i)) (g none) xs c
+look-map A B g f none xs c = go (ltb (seek c xs) (length xs))
+  where
+    go : (b : Bool) → g (cond b (f (seek c xs)) none) ≡ cond b (g (f (seek c xs))) (g none)
+    go true = refl
+    go false = refl

@@ -11,11 +11,11 @@ use borrow.Author.Tests.{ltb-true, ltb-false}
 use lib.Dec.{T, eqb, ltb}
 use lib.Pow.{mod-pow-add}
 use lib.ListN.{length, getD, drop, length-take, length-drop}
-use Rattle.laws.specs.Lists.{tab, tab-length, tab-at, seek, seek-le, seek-holds, seek-is, seek-none, seek-first, Distinct, look-at, look-none, look-out, look-missing}
+use Rattle.laws.specs.Lists.{tab, tab-length, tab-at, seek, seek-le, seek-holds, seek-is, seek-none, seek-first, Distinct, look-at, look-none, look-out, look-missing, look-map, lookUp}
 use Rattle.laws.specs.Tables.{every, found-distinct, up-distinct}
 use Rattle.trellis.specs.Code.{wordOf, columns, codewords, label, first, second, third}
 use Rattle.trellis.specs.Tables.{prefixes, middles, nexts, suffixes}
-use Rattle.trellis.specs.Trellis.{row, prefixOf, middleOf, nextOf, suffixOf, path, s8Of, b1Of, b2Of, b3Of, s16Of, openingOf, passageOf, closingOf, labelOf}
+use Rattle.trellis.specs.Trellis.{row, prefixOf, middleOf, nextOf, suffixOf, path, s8Of, b1Of, b2Of, b3Of, s16Of, openingOf, passageOf, closingOf, openingSays, passageSays, closingSays, labelOf}
 use Rattle.trellis.specs.Path.{row-at, row-length, row-none, path-at, first-at, second-at, third-at, middle-up, middles-length, suffix-pair, next-lt}
 use Rattle.trellis.specs.CodeLaws.{distinct}
 use Rattle.trellis.specs.declared.Opening.{Opening}
@@ -24,6 +24,25 @@ use Rattle.trellis.specs.declared.Passage.{Passage}
 use Rattle.trellis.specs.declared.Passage.the-variants.{Along, NoBranch}
 use Rattle.trellis.specs.declared.Closing.{Closing}
 use Rattle.trellis.specs.declared.Closing.the-variants.{By, NoSuffix}
+
+-- ---- an answer is known from what it says
+pub opening-by : (o p : Opening) → openingSays o ≡ openingSays p → o ≡ p
+opening-by (From s b) (From t d) e = cc
+opening-by (From s b) NoState e = cc
+opening-by NoState (From t d) e = cc
+opening-by NoState NoState e = refl
+
+pub passage-by : (o p : Passage) → passageSays o ≡ passageSays p → o ≡ p
+passage-by (Along b s) (Along d t) e = cc
+passage-by (Along b s) NoBranch e = cc
+passage-by NoBranch (Along d t) e = cc
+passage-by NoBranch NoBranch e = refl
+
+pub closing-by : (o p : Closing) → closingSays o ≡ closingSays p → o ≡ p
+closing-by (By b) (By d) e = cc
+closing-by (By b) NoSuffix e = cc
+closing-by NoSuffix (By d) e = cc
+closing-by NoSuffix NoSuffix e = refl
 
 -- ---- a prefix byte
 prefixes-length : length prefixes ≡ 128
@@ -37,36 +56,42 @@ prefixes-found = tt
 prefixes-distinct : Distinct prefixes
 prefixes-distinct = found-distinct prefixes prefixes-found
 
-no-state : (s8 b1 : ℕ) → NoState ≡ From s8 b1 → ⊥
-no-state s b e = let z : _≡_ {A = ℕ} 0 1 = cc in omega arith
+-- no answer says nothing
+no-values : (x : ℕ) (xs : List ℕ) → [] ≡ x ∷ xs → ⊥
+no-values x xs e = let z : _≡_ {A = ℕ} 0 1 = cc in omega arith
 
-abbrev openAt : ℕ → Opening
-openAt i = From (i / 2) (i % 2)
+abbrev openAt : ℕ → List ℕ
+openAt i = (i / 2) ∷ (i % 2) ∷ []
 
-pub opening-iff : (c1 s8 b1 : ℕ) → (openingOf c1 ≡ From s8 b1) ↔ ((s8 < 64) × (b1 < 2) × (prefixOf s8 b1 ≡ c1))
-unfolding openingOf prefixOf
-opening-iff c s b = (look-out Opening openAt NoState prefixes c (From s b) _ (no-state s b) out, into)
+opening-says : (c1 : ℕ) → openingSays (openingOf c1) ≡ lookUp openAt [] prefixes c1
+unfolding openingOf
+opening-says c1 = look-map Opening (List ℕ) openingSays (λ (i : ℕ). From (i / 2) (i % 2)) NoState prefixes c1
+
+pub opening-iff : (c1 s8 b1 : ℕ) → (openingSays (openingOf c1) ≡ s8 ∷ b1 ∷ []) ↔ ((s8 < 64) × (b1 < 2) × (prefixOf s8 b1 ≡ c1))
+unfolding prefixOf
+opening-iff c s b = (λ e. look-out (List ℕ) openAt [] prefixes c (s ∷ b ∷ []) _ (no-values s (b ∷ [])) out (sym (opening-says c) ∙ e), into)
   where
-    out : (i : ℕ) → i < length prefixes → getD prefixes i 0 ≡ c → From (i / 2) (i % 2) ≡ From s b
+    out : (i : ℕ) → i < length prefixes → getD prefixes i 0 ≡ c → (i / 2) ∷ (i % 2) ∷ [] ≡ s ∷ b ∷ []
         → (s < 64) × (b < 2) × (getD (row 2 prefixes s) b 0 ≡ c)
     out i h e q =
         let u : i / 2 ≡ s = cc in
         let v : i % 2 ≡ b = cc in
         (omega (arith, prefixes-length), omega arith,
         row-at 2 prefixes s b (omega arith) ∙ ap (λ (n : ℕ). getD prefixes n 0) (omega arith) ∙ e)
-    into : (s < 64) × (b < 2) × (getD (row 2 prefixes s) b 0 ≡ c) → openingOf c ≡ From s b
+    into : (s < 64) × (b < 2) × (getD (row 2 prefixes s) b 0 ≡ c) → openingSays (openingOf c) ≡ s ∷ b ∷ []
     into q =
-        look-at Opening openAt NoState prefixes c prefixes-distinct (2 * s + b) (omega (arith, prefixes-length))
+        opening-says c
+        ∙ look-at (List ℕ) openAt [] prefixes c prefixes-distinct (2 * s + b) (omega (arith, prefixes-length))
         (sym (row-at 2 prefixes s b (q .1)) ∙ q .2)
-        ∙ ap₂ From (omega arith) (omega arith)
+        ∙ ap₂ (λ (x y : ℕ). x ∷ y ∷ []) (omega arith) (omega arith)
 
-pub opening-none : (c1 : ℕ) → (openingOf c1 ≡ NoState) ↔ ((s8 b1 : ℕ) → s8 < 64 → b1 < 2 → prefixOf s8 b1 ≡ c1 → ⊥)
-unfolding openingOf prefixOf
+pub opening-none : (c1 : ℕ) → (openingSays (openingOf c1) ≡ []) ↔ ((s8 b1 : ℕ) → s8 < 64 → b1 < 2 → prefixOf s8 b1 ≡ c1 → ⊥)
+unfolding prefixOf
 opening-none c =
     (λ e s b h k q.
-    look-missing Opening openAt NoState prefixes c (λ i u. no-state (i / 2) (i % 2) (sym u)) e (2 * s + b) (omega (arith, prefixes-length))
-    (sym (row-at 2 prefixes s b k) ∙ q),
-    λ n. look-none Opening openAt NoState prefixes c
+    look-missing (List ℕ) openAt [] prefixes c (λ i u. no-values (i / 2) ((i % 2) ∷ []) (sym u)) (sym (opening-says c) ∙ e) (2 * s + b)
+    (omega (arith, prefixes-length)) (sym (row-at 2 prefixes s b k) ∙ q),
+    λ n. opening-says c ∙ look-none (List ℕ) openAt [] prefixes c
     (λ i h e. n (i / 2) (i % 2) (omega (arith, prefixes-length)) (omega arith)
     (row-at 2 prefixes (i / 2) (i % 2) (omega arith) ∙ ap (λ (m : ℕ). getD prefixes m 0) (omega arith) ∙ e)))
 
@@ -81,9 +106,6 @@ in-row : (n : ℕ) (t : List ℕ) (s b : ℕ) → b < n → n * s + n ≤ length
 in-row n t s b h k = omega (arith, row-length n t s k)
 
 -- ---- a middle byte
-no-branch : (b2 s16 : ℕ) → NoBranch ≡ Along b2 s16 → ⊥
-no-branch b t e = let z : _≡_ {A = ℕ} 0 1 = cc in omega arith
-
 middles-distinct : (s8 : ℕ) → Distinct (row 16 middles s8)
 unfolding middleOf
 middles-distinct s =
@@ -92,43 +114,47 @@ middles-distinct s =
     let q = row-in 16 middles s j k in
     middle-up s (omega (arith, q .1, middles-length)) i j h (q .0))
 
-abbrev passAt : ℕ → ℕ → Passage
-passAt s b = Along b (nextOf s b)
+abbrev passAt : ℕ → ℕ → List ℕ
+passAt s b = b ∷ nextOf s b ∷ []
+
+passage-says : (s8 c2 : ℕ) → passageSays (passageOf s8 c2) ≡ lookUp (passAt s8) [] (row 16 middles s8) c2
+unfolding passageOf
+passage-says s c = look-map Passage (List ℕ) passageSays (λ (b : ℕ). Along b (nextOf s b)) NoBranch (row 16 middles s) c
 
 pub passage-iff : (s8 c2 b2 s16 : ℕ)
-    → (passageOf s8 c2 ≡ Along b2 s16) ↔ ((s8 < 64) × (b2 < 16) × (middleOf s8 b2 ≡ c2) × (nextOf s8 b2 ≡ s16))
-unfolding passageOf middleOf
-passage-iff s c b t = (look-out Passage (passAt s) NoBranch (row 16 middles s) c (Along b t) _ (no-branch b t) out, into)
+    → (passageSays (passageOf s8 c2) ≡ b2 ∷ s16 ∷ []) ↔ ((s8 < 64) × (b2 < 16) × (middleOf s8 b2 ≡ c2) × (nextOf s8 b2 ≡ s16))
+unfolding middleOf
+passage-iff s c b t =
+    (λ e. look-out (List ℕ) (passAt s) [] (row 16 middles s) c (b ∷ t ∷ []) _ (no-values b (t ∷ [])) out (sym (passage-says s c) ∙ e), into)
   where
-    out : (i : ℕ) → i < length (row 16 middles s) → getD (row 16 middles s) i 0 ≡ c → Along i (nextOf s i) ≡ Along b t
+    out : (i : ℕ) → i < length (row 16 middles s) → getD (row 16 middles s) i 0 ≡ c → i ∷ nextOf s i ∷ [] ≡ b ∷ t ∷ []
         → (s < 64) × (b < 16) × (getD (row 16 middles s) b 0 ≡ c) × (nextOf s b ≡ t)
     out i h e q =
         let u : i ≡ b = cc in
         let v : nextOf s i ≡ t = cc in
         let r = row-in 16 middles s i h in
         (omega (arith, r .1, middles-length), omega (arith, r .0), rw (← u) e, rw (← u) v)
-    into : (s < 64) × (b < 16) × (getD (row 16 middles s) b 0 ≡ c) × (nextOf s b ≡ t) → passageOf s c ≡ Along b t
+    into : (s < 64) × (b < 16) × (getD (row 16 middles s) b 0 ≡ c) × (nextOf s b ≡ t) → passageSays (passageOf s c) ≡ b ∷ t ∷ []
     into q =
-        look-at Passage (passAt s) NoBranch (row 16 middles s) c (middles-distinct s) b
+        passage-says s c
+        ∙ look-at (List ℕ) (passAt s) [] (row 16 middles s) c (middles-distinct s) b
         (in-row 16 middles s b (q .1) (omega (arith, middles-length))) (q .2)
-        ∙ ap (Along b) (q .3)
+        ∙ ap (λ (x : ℕ). b ∷ x ∷ []) (q .3)
 
-pub passage-none : (s8 c2 : ℕ) → (passageOf s8 c2 ≡ NoBranch) ↔ ((b2 : ℕ) → s8 < 64 → b2 < 16 → middleOf s8 b2 ≡ c2 → ⊥)
-unfolding passageOf middleOf
+pub passage-none : (s8 c2 : ℕ)
+    → (passageSays (passageOf s8 c2) ≡ []) ↔ ((b2 : ℕ) → s8 < 64 → b2 < 16 → middleOf s8 b2 ≡ c2 → ⊥)
+unfolding middleOf
 passage-none s c =
     (λ e b h k q.
-    look-missing Passage (passAt s) NoBranch (row 16 middles s) c (λ i u. no-branch i (nextOf s i) (sym u)) e b
+    look-missing (List ℕ) (passAt s) [] (row 16 middles s) c (λ i u. no-values i (nextOf s i ∷ []) (sym u)) (sym (passage-says s c) ∙ e) b
     (in-row 16 middles s b k (omega (arith, middles-length))) q,
-    λ n. look-none Passage (passAt s) NoBranch (row 16 middles s) c
+    λ n. passage-says s c ∙ look-none (List ℕ) (passAt s) [] (row 16 middles s) c
     (λ i h e. let r = row-in 16 middles s i h in n i (omega (arith, r .1, middles-length)) (r .0) e))
 
 -- ---- a suffix byte
 suffixes-length : length suffixes ≡ 128
 unfolding suffixes
 suffixes-length = refl
-
-no-suffix : (b3 : ℕ) → NoSuffix ≡ By b3 → ⊥
-no-suffix b e = let z : _≡_ {A = ℕ} 0 1 = cc in omega arith
 
 suffixes-distinct : (s16 : ℕ) → Distinct (row 2 suffixes s16)
 unfolding suffixOf
@@ -140,28 +166,36 @@ suffixes-distinct s =
     let v : j ≡ 1 = omega (arith, q .0) in
     rw (u, v) (suffix-pair s (omega (arith, q .1, suffixes-length)) .0))
 
-pub closing-iff : (s16 c3 b3 : ℕ) → (closingOf s16 c3 ≡ By b3) ↔ ((s16 < 64) × (b3 < 2) × (suffixOf s16 b3 ≡ c3))
-unfolding closingOf suffixOf
-closing-iff s c b = (look-out Closing By NoSuffix (row 2 suffixes s) c (By b) _ (no-suffix b) out, into)
+abbrev closeAt : ℕ → List ℕ
+closeAt b = b ∷ []
+
+closing-says : (s16 c3 : ℕ) → closingSays (closingOf s16 c3) ≡ lookUp closeAt [] (row 2 suffixes s16) c3
+unfolding closingOf
+closing-says s c = look-map Closing (List ℕ) closingSays By NoSuffix (row 2 suffixes s) c
+
+pub closing-iff : (s16 c3 b3 : ℕ) → (closingSays (closingOf s16 c3) ≡ b3 ∷ []) ↔ ((s16 < 64) × (b3 < 2) × (suffixOf s16 b3 ≡ c3))
+unfolding suffixOf
+closing-iff s c b = (λ e. look-out (List ℕ) closeAt [] (row 2 suffixes s) c (b ∷ []) _ (no-values b []) out (sym (closing-says s c) ∙ e), into)
   where
-    out : (i : ℕ) → i < length (row 2 suffixes s) → getD (row 2 suffixes s) i 0 ≡ c → By i ≡ By b
+    out : (i : ℕ) → i < length (row 2 suffixes s) → getD (row 2 suffixes s) i 0 ≡ c → i ∷ [] ≡ b ∷ []
         → (s < 64) × (b < 2) × (getD (row 2 suffixes s) b 0 ≡ c)
     out i h e q =
         let u : i ≡ b = cc in
         let r = row-in 2 suffixes s i h in
         (omega (arith, r .1, suffixes-length), omega (arith, r .0), rw (← u) e)
-    into : (s < 64) × (b < 2) × (getD (row 2 suffixes s) b 0 ≡ c) → closingOf s c ≡ By b
+    into : (s < 64) × (b < 2) × (getD (row 2 suffixes s) b 0 ≡ c) → closingSays (closingOf s c) ≡ b ∷ []
     into q =
-        look-at Closing By NoSuffix (row 2 suffixes s) c (suffixes-distinct s) b
+        closing-says s c
+        ∙ look-at (List ℕ) closeAt [] (row 2 suffixes s) c (suffixes-distinct s) b
         (in-row 2 suffixes s b (q .1) (omega (arith, suffixes-length))) (q .2)
 
-pub closing-none : (s16 c3 : ℕ) → (closingOf s16 c3 ≡ NoSuffix) ↔ ((b3 : ℕ) → s16 < 64 → b3 < 2 → suffixOf s16 b3 ≡ c3 → ⊥)
-unfolding closingOf suffixOf
+pub closing-none : (s16 c3 : ℕ) → (closingSays (closingOf s16 c3) ≡ []) ↔ ((b3 : ℕ) → s16 < 64 → b3 < 2 → suffixOf s16 b3 ≡ c3 → ⊥)
+unfolding suffixOf
 closing-none s c =
     (λ e b h k q.
-    look-missing Closing By NoSuffix (row 2 suffixes s) c (λ i u. no-suffix i (sym u)) e b
+    look-missing (List ℕ) closeAt [] (row 2 suffixes s) c (λ i u. no-values i [] (sym u)) (sym (closing-says s c) ∙ e) b
     (in-row 2 suffixes s b k (omega (arith, suffixes-length))) q,
-    λ n. look-none Closing By NoSuffix (row 2 suffixes s) c
+    λ n. closing-says s c ∙ look-none (List ℕ) closeAt [] (row 2 suffixes s) c
     (λ i h e. let r = row-in 2 suffixes s i h in n i (omega (arith, r .1, suffixes-length)) (r .0) e))
 
 -- ---- a codeword
@@ -225,15 +259,15 @@ pub walk-back : (x : ℕ) → (openingOf (first (wordOf columns x)) ≡ From (s8
     × (passageOf (s8Of x) (second (wordOf columns x)) ≡ Along (b2Of x) (s16Of x)) × (closingOf (s16Of x) (third (wordOf columns x)) ≡ By (b3Of x))
 walk-back x =
     let w = wordOf columns x in
-    (opening-iff (first w) (s8Of x) (b1Of x) .1 (omega arith, omega arith, sym (first-at x)),
-    passage-iff (s8Of x) (second w) (b2Of x) (s16Of x) .1 (omega arith, omega arith, sym (second-at x), refl),
-    closing-iff (s16Of x) (third w) (b3Of x) .1 (next-lt (s8Of x) (b2Of x), omega arith, sym (third-at x)))
+    (opening-by _ _ (opening-iff (first w) (s8Of x) (b1Of x) .1 (omega arith, omega arith, sym (first-at x))),
+    passage-by _ _ (passage-iff (s8Of x) (second w) (b2Of x) (s16Of x) .1 (omega arith, omega arith, sym (second-at x), refl)),
+    closing-by _ _ (closing-iff (s16Of x) (third w) (b3Of x) .1 (next-lt (s8Of x) (b2Of x), omega arith, sym (third-at x))))
 
 -- and three bytes that lead back along a path are the sections of its codeword
 pub walk-word : (c1 c2 c3 s8 b1 b2 s16 b3 : ℕ) → openingOf c1 ≡ From s8 b1 → passageOf s8 c2 ≡ Along b2 s16 → closingOf s16 c3 ≡ By b3
     → wordOf columns (label s8 b1 b2 b3) ≡ c1 + 256 * c2 + 65536 * c3
 walk-word c1 c2 c3 s8 b1 b2 s16 b3 e f g =
-    let p = opening-iff c1 s8 b1 .0 e in
-    let q = passage-iff s8 c2 b2 s16 .0 f in
-    let r = closing-iff s16 c3 b3 .0 g in
+    let p = opening-iff c1 s8 b1 .0 (ap openingSays e) in
+    let q = passage-iff s8 c2 b2 s16 .0 (ap passageSays f) in
+    let r = closing-iff s16 c3 b3 .0 (ap closingSays g) in
     path-word s8 b1 b2 b3 (p .0) (p .1) (q .1) (r .1) ∙ rw (p .2, q .2, q .3, r .2)

@@ -27,6 +27,10 @@ codewords = tab (wordOf columns) 4096
 abbrev pub label : ℕ → ℕ → ℕ → ℕ → ℕ
 label s8 b1 b2 b3 = s8 + 64 * b1 + 128 * b2 + 2048 * b3
 
+-- the label of four numbers, each cut to its width
+abbrev pub inputOf : ℕ → ℕ → ℕ → ℕ → ℕ
+inputOf s8 b1 b2 b3 = label (s8 % 64) (b1 % 2) (b2 % 16) (b3 % 2)
+
 -- ---- sections: the bytes c1, c2, c3 of a word c1 + 256 c2 + 65536 c3
 abbrev pub first : ℕ → ℕ
 first w = w % 256

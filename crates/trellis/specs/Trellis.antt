@@ -6,6 +6,7 @@ use lib.ListN.{getD, take, drop}
 use Rattle.laws.specs.Lists.{seek, lookUp}
 use Rattle.trellis.specs.Code.{codewords}
 use Rattle.trellis.specs.Tables.{prefixes, middles, nexts, suffixes}
+use Rattle.trellis.specs.declared.Branch.{Branch}
 use Rattle.trellis.specs.declared.Opening.{Opening}
 use Rattle.trellis.specs.declared.Opening.the-variants.{From, NoState}
 use Rattle.trellis.specs.declared.Passage.{Passage}
@@ -38,6 +39,10 @@ suffixOf s16 b3 = getD (row 2 suffixes s16) b3 0
 abbrev pub path : ℕ → ℕ → ℕ → ℕ → ℕ
 path s8 b1 b2 b3 = prefixOf s8 b1 + 256 * middleOf s8 b2 + 65536 * suffixOf (nextOf s8 b2) b3
 
+-- the branch b2 out of state s8
+abbrev pub branchOf : ℕ → ℕ → Branch
+branchOf s8 b2 = record { byte = middleOf s8 b2; s16 = nextOf s8 b2 }
+
 -- ---- the path of a label
 abbrev pub s8Of : ℕ → ℕ
 s8Of x = x % 64
@@ -55,8 +60,20 @@ b3Of x = x / 2048 % 2
 abbrev pub s16Of : ℕ → ℕ
 s16Of x = nextOf (s8Of x) (b2Of x)
 
--- ---- the way back
--- the state at cut 8 and the bit of a prefix byte
+-- ---- the way back. What an answer says: its numbers, and no numbers where there is none. Neither is a refusal.
+abbrev pub openingSays : Opening → List ℕ
+openingSays (From s8 b1) = s8 ∷ b1 ∷ []
+openingSays NoState = []
+
+abbrev pub passageSays : Passage → List ℕ
+passageSays (Along b2 s16) = b2 ∷ s16 ∷ []
+passageSays NoBranch = []
+
+abbrev pub closingSays : Closing → List ℕ
+closingSays (By b3) = b3 ∷ []
+closingSays NoSuffix = []
+
+-- the state at cut 8 and the bit of a prefix byte: there are two prefixes to a state
 unfoldable pub openingOf : ℕ → Opening
 openingOf c1 = lookUp (λ (i : ℕ). From (i / 2) (i % 2)) NoState prefixes c1
 

@@ -18,3 +18,9 @@ pub enum Closing {
     By(u8),
     NoSuffix,
 }
+
+// A branch out of a state at cut 8: its middle byte, and the state at cut 16 that it leads to.
+pub struct Branch {
+    pub byte: u8,
+    pub s16: u8,
+}
