@@ -16,7 +16,7 @@ use Rattle.laws.specs.Tables.{every, found-distinct, up-distinct}
 use Rattle.trellis.specs.Code.{wordOf, columns, codewords, label, first, second, third}
 use Rattle.trellis.specs.Tables.{prefixes, middles, nexts, suffixes}
 use Rattle.trellis.specs.Trellis.{row, prefixOf, middleOf, nextOf, suffixOf, path, s8Of, b1Of, b2Of, b3Of, s16Of, openingOf, passageOf, closingOf, openingSays, passageSays, closingSays, labelOf}
-use Rattle.trellis.specs.Path.{row-at, row-length, row-none, path-at, first-at, second-at, third-at, middle-up, middles-length, suffix-pair, next-lt}
+use Rattle.trellis.specs.Path.{row-at, row-length, row-none, path-at, first-at, second-at, third-at, middle-up, prefixes-length, middles-length, suffixes-length, suffix-pair, next-lt}
 use Rattle.trellis.specs.CodeLaws.{distinct}
 use Rattle.trellis.specs.declared.Opening.{Opening}
 use Rattle.trellis.specs.declared.Opening.the-variants.{From, NoState}
@@ -45,15 +45,11 @@ closing-by NoSuffix (By d) e = cc
 closing-by NoSuffix NoSuffix e = refl
 
 -- ---- a prefix byte
-prefixes-length : length prefixes ≡ 128
-unfolding prefixes
-prefixes-length = refl
-
 prefixes-found : T (every (λ (i x : ℕ). eqb (seek x prefixes) i) 0 prefixes)
 unfolding prefixes
 prefixes-found = tt
 
-prefixes-distinct : Distinct prefixes
+pub prefixes-distinct : Distinct prefixes
 prefixes-distinct = found-distinct prefixes prefixes-found
 
 -- no answer says nothing
@@ -152,10 +148,6 @@ passage-none s c =
     (λ i h e. let r = row-in 16 middles s i h in n i (omega (arith, r .1, middles-length)) (r .0) e))
 
 -- ---- a suffix byte
-suffixes-length : length suffixes ≡ 128
-unfolding suffixes
-suffixes-length = refl
-
 suffixes-distinct : (s16 : ℕ) → Distinct (row 2 suffixes s16)
 unfolding suffixOf
 suffixes-distinct s =

@@ -33,20 +33,43 @@ row-length n t s h = length-take-le n (drop (n * s) t) (omega (arith, length-dro
 pub row-none : (n : ℕ) (t : List ℕ) (s : ℕ) → length t ≤ n * s → row n t s ≡ []
 row-none n t s h = ap (take n) (drop-of-length-le t h) ∙ take-nil n
 
+-- past the end of the table, and past the end of a row, is 0
+pub row-beyond : (n : ℕ) (t : List ℕ) (s b : ℕ) → length t ≤ n * s → getD (row n t s) b 0 ≡ 0
+row-beyond n t s b h = ap (λ (l : List ℕ). getD l b 0) (row-none n t s h)
+
+pub row-past : (n : ℕ) (t : List ℕ) (s b : ℕ) → n ≤ b → getD (row n t s) b 0 ≡ 0
+row-past n t s b h =
+    List·getD-eq-default (row n t s) 0 (omega (arith, length-take n (drop (n * s) t), min-le-left n (length (drop (n * s) t))))
+
 -- every entry of a row is an entry of the table, or 0
 row-entry : (P : ℕ → Type 0) (n : ℕ) (t : List ℕ) (s b : ℕ) → P 0 → ((i : ℕ) → P (getD t i 0)) → P (getD (row n t s) b 0)
 row-entry P n t s b z p = go (ltb b n) refl
   where
     go : (q : Bool) → ltb b n ≡ q → P (getD (row n t s) b 0)
     go true e = rw (row-at n t s b (ltb-true b n e)) (p (n * s + b))
-    go false e =
-        subst P
-        (sym (List·getD-eq-default (row n t s) 0 (omega (arith, length-take n (drop (n * s) t), min-le-left n (length (drop (n * s) t)), ltb-false b n e)))) z
+    go false e = subst P (sym (row-past n t s b (ltb-false b n e))) z
 
 entry-lt : (k : ℕ) (t : List ℕ) → T (allBelow k t) → (i : ℕ) → getD t i 0 < 2 ^ k
 entry-lt k [] a i = pow-pos k
 entry-lt k (x ∷ t) a zero = ltb→lt x (2 ^ k) (and-left (ltb x (2 ^ k)) (allBelow k t) a)
 entry-lt k (x ∷ t) a (suc i) = entry-lt k t (and-right (ltb x (2 ^ k)) (allBelow k t) a) i
+
+-- ---- 64 rows each
+pub prefixes-length : length prefixes ≡ 128
+unfolding prefixes
+prefixes-length = refl
+
+pub middles-length : length middles ≡ 1024
+unfolding middles
+middles-length = refl
+
+pub nexts-length : length nexts ≡ 1024
+unfolding nexts
+nexts-length = refl
+
+pub suffixes-length : length suffixes ≡ 128
+unfolding suffixes
+suffixes-length = refl
 
 -- ---- bytes are below 256, states below 64
 prefixes-below : T (allBelow 8 prefixes)
@@ -176,10 +199,6 @@ pub suffix-pair : (s16 : ℕ) → s16 < 64 → Pair suffixOf s16
 suffix-pair = pair-of suffixOf suffix-pairs
 
 -- ---- the sixteen middle bytes of a state ascend, and so are distinct
-pub middles-length : length middles ≡ 1024
-unfolding middles
-middles-length = refl
-
 fan : ℕ → Bool
 fan s = ascBy suc 0 (row 16 middles s)
 

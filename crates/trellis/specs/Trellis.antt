@@ -6,7 +6,7 @@ use lib.ListN.{getD, take, drop}
 use Rattle.laws.specs.Lists.{seek, lookUp}
 use Rattle.trellis.specs.Code.{codewords}
 use Rattle.trellis.specs.Tables.{prefixes, middles, nexts, suffixes}
-use Rattle.trellis.specs.declared.Branch.{Branch}
+use Rattle.trellis.specs.declared.Edge.{Edge}
 use Rattle.trellis.specs.declared.Opening.{Opening}
 use Rattle.trellis.specs.declared.Opening.the-variants.{From, NoState}
 use Rattle.trellis.specs.declared.Passage.{Passage}
@@ -40,7 +40,7 @@ abbrev pub path : ℕ → ℕ → ℕ → ℕ → ℕ
 path s8 b1 b2 b3 = prefixOf s8 b1 + 256 * middleOf s8 b2 + 65536 * suffixOf (nextOf s8 b2) b3
 
 -- the branch b2 out of state s8
-abbrev pub branchOf : ℕ → ℕ → Branch
+abbrev pub branchOf : ℕ → ℕ → Edge
 branchOf s8 b2 = record { byte = middleOf s8 b2; s16 = nextOf s8 b2 }
 
 -- ---- the path of a label
