@@ -76,5 +76,6 @@ up-distinct xs up i j h k e = omega (arith, before, after)
   where
     before : i < j → ⊥
     before l = omega (arith, up i j l k)
+
     after : j < i → ⊥
     after l = omega (arith, up j i l h)

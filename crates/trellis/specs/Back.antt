@@ -71,9 +71,12 @@ opening-iff c s b = (λ e. look-out (List ℕ) openAt [] prefixes c (s ∷ b ∷
         → (s < 64) × (b < 2) × (getD (row 2 prefixes s) b 0 ≡ c)
     out i h e q =
         let u : i / 2 ≡ s = cc in
-        let v : i % 2 ≡ b = cc in
-        (omega (arith, prefixes-length), omega arith,
-        row-at 2 prefixes s b (omega arith) ∙ ap (λ (n : ℕ). getD prefixes n 0) (omega arith) ∙ e)
+        let v : i % 2 ≡ b = cc in (
+          omega (arith, prefixes-length),
+          omega arith,
+          row-at 2 prefixes s b (omega arith) ∙ ap (λ (n : ℕ). getD prefixes n 0) (omega arith) ∙ e,
+        )
+
     into : (s < 64) × (b < 2) × (getD (row 2 prefixes s) b 0 ≡ c) → openingSays (openingOf c) ≡ s ∷ b ∷ []
     into q =
         opening-says c
@@ -83,20 +86,22 @@ opening-iff c s b = (λ e. look-out (List ℕ) openAt [] prefixes c (s ∷ b ∷
 
 pub opening-none : (c1 : ℕ) → (openingSays (openingOf c1) ≡ []) ↔ ((s8 b1 : ℕ) → s8 < 64 → b1 < 2 → prefixOf s8 b1 ≡ c1 → ⊥)
 unfolding prefixOf
-opening-none c =
-    (λ e s b h k q.
-    look-missing (List ℕ) openAt [] prefixes c (λ i u. no-values (i / 2) ((i % 2) ∷ []) (sym u)) (sym (opening-says c) ∙ e) (2 * s + b)
-    (omega (arith, prefixes-length)) (sym (row-at 2 prefixes s b k) ∙ q),
-    λ n. opening-says c ∙ look-none (List ℕ) openAt [] prefixes c
-    (λ i h e. n (i / 2) (i % 2) (omega (arith, prefixes-length)) (omega arith)
-    (row-at 2 prefixes (i / 2) (i % 2) (omega arith) ∙ ap (λ (m : ℕ). getD prefixes m 0) (omega arith) ∙ e)))
+opening-none c = (
+  λ e s b h k q.
+      look-missing (List ℕ) openAt [] prefixes c (λ i u. no-values (i / 2) ((i % 2) ∷ []) (sym u)) (sym (opening-says c) ∙ e) (2 * s + b)
+      (omega (arith, prefixes-length)) (sym (row-at 2 prefixes s b k) ∙ q),
+  λ n. opening-says c ∙ look-none (List ℕ) openAt [] prefixes c
+      (λ i h e. n (i / 2) (i % 2) (omega (arith, prefixes-length)) (omega arith)
+      (row-at 2 prefixes (i / 2) (i % 2) (omega arith) ∙ ap (λ (m : ℕ). getD prefixes m 0) (omega arith) ∙ e)),
+)
 
 -- ---- rows of a table: what stands in one stands in the table
 row-in : (n : ℕ) (t : List ℕ) (s b : ℕ) → b < length (row n t s) → (b < n) × (n * s + b < length t)
 row-in n t s b h =
-    let l = length (drop (n * s) t) in
-    (omega (arith, length-take n (drop (n * s) t), min-le-left n l),
-    omega (arith, length-take n (drop (n * s) t), min-le-right n l, length-drop (n * s) t))
+    let l = length (drop (n * s) t) in (
+      omega (arith, length-take n (drop (n * s) t), min-le-left n l),
+      omega (arith, length-take n (drop (n * s) t), min-le-right n l, length-drop (n * s) t),
+    )
 
 in-row : (n : ℕ) (t : List ℕ) (s b : ℕ) → b < n → n * s + n ≤ length t → b < length (row n t s)
 in-row n t s b h k = omega (arith, row-length n t s k)
@@ -130,6 +135,7 @@ passage-iff s c b t =
         let v : nextOf s i ≡ t = cc in
         let r = row-in 16 middles s i h in
         (omega (arith, r .1, middles-length), omega (arith, r .0), rw (← u) e, rw (← u) v)
+
     into : (s < 64) × (b < 16) × (getD (row 16 middles s) b 0 ≡ c) × (nextOf s b ≡ t) → passageSays (passageOf s c) ≡ b ∷ t ∷ []
     into q =
         passage-says s c
@@ -140,12 +146,13 @@ passage-iff s c b t =
 pub passage-none : (s8 c2 : ℕ)
     → (passageSays (passageOf s8 c2) ≡ []) ↔ ((b2 : ℕ) → s8 < 64 → b2 < 16 → middleOf s8 b2 ≡ c2 → ⊥)
 unfolding middleOf
-passage-none s c =
-    (λ e b h k q.
-    look-missing (List ℕ) (passAt s) [] (row 16 middles s) c (λ i u. no-values i (nextOf s i ∷ []) (sym u)) (sym (passage-says s c) ∙ e) b
-    (in-row 16 middles s b k (omega (arith, middles-length))) q,
-    λ n. passage-says s c ∙ look-none (List ℕ) (passAt s) [] (row 16 middles s) c
-    (λ i h e. let r = row-in 16 middles s i h in n i (omega (arith, r .1, middles-length)) (r .0) e))
+passage-none s c = (
+  λ e b h k q.
+      look-missing (List ℕ) (passAt s) [] (row 16 middles s) c (λ i u. no-values i (nextOf s i ∷ []) (sym u)) (sym (passage-says s c) ∙ e) b
+      (in-row 16 middles s b k (omega (arith, middles-length))) q,
+  λ n. passage-says s c ∙ look-none (List ℕ) (passAt s) [] (row 16 middles s) c
+      (λ i h e. let r = row-in 16 middles s i h in n i (omega (arith, r .1, middles-length)) (r .0) e),
+)
 
 -- ---- a suffix byte
 suffixes-distinct : (s16 : ℕ) → Distinct (row 2 suffixes s16)
@@ -175,6 +182,7 @@ closing-iff s c b = (λ e. look-out (List ℕ) closeAt [] (row 2 suffixes s) c (
         let u : i ≡ b = cc in
         let r = row-in 2 suffixes s i h in
         (omega (arith, r .1, suffixes-length), omega (arith, r .0), rw (← u) e)
+
     into : (s < 64) × (b < 2) × (getD (row 2 suffixes s) b 0 ≡ c) → closingSays (closingOf s c) ≡ b ∷ []
     into q =
         closing-says s c
@@ -183,12 +191,13 @@ closing-iff s c b = (λ e. look-out (List ℕ) closeAt [] (row 2 suffixes s) c (
 
 pub closing-none : (s16 c3 : ℕ) → (closingSays (closingOf s16 c3) ≡ []) ↔ ((b3 : ℕ) → s16 < 64 → b3 < 2 → suffixOf s16 b3 ≡ c3 → ⊥)
 unfolding suffixOf
-closing-none s c =
-    (λ e b h k q.
-    look-missing (List ℕ) closeAt [] (row 2 suffixes s) c (λ i u. no-values i [] (sym u)) (sym (closing-says s c) ∙ e) b
-    (in-row 2 suffixes s b k (omega (arith, suffixes-length))) q,
-    λ n. closing-says s c ∙ look-none (List ℕ) closeAt [] (row 2 suffixes s) c
-    (λ i h e. let r = row-in 2 suffixes s i h in n i (omega (arith, r .1, suffixes-length)) (r .0) e))
+closing-none s c = (
+  λ e b h k q.
+      look-missing (List ℕ) closeAt [] (row 2 suffixes s) c (λ i u. no-values i [] (sym u)) (sym (closing-says s c) ∙ e) b
+      (in-row 2 suffixes s b k (omega (arith, suffixes-length))) q,
+  λ n. closing-says s c ∙ look-none (List ℕ) closeAt [] (row 2 suffixes s) c
+      (λ i h e. let r = row-in 2 suffixes s i h in n i (omega (arith, r .1, suffixes-length)) (r .0) e),
+)
 
 -- ---- a codeword
 codewords-length : length codewords ≡ 4096
@@ -215,19 +224,21 @@ label-word w h = sym (codewords-at (labelOf w) h) ∙ seek-holds w codewords (om
 
 pub label-iff : (w x : ℕ) → x < 4096 → (labelOf w ≡ x) ↔ (wordOf columns x ≡ w)
 unfolding labelOf
-label-iff w x h =
-    (λ e. ap (wordOf columns) (sym e) ∙ label-word w (omega arith),
-    λ e. seek-is w codewords codewords-distinct x (omega (arith, codewords-length)) (codewords-at x h ∙ e))
+label-iff w x h = (
+  λ e. ap (wordOf columns) (sym e) ∙ label-word w (omega arith),
+  λ e. seek-is w codewords codewords-distinct x (omega (arith, codewords-length)) (codewords-at x h ∙ e),
+)
 
 pub label-at : (x : ℕ) → x < 4096 → labelOf (wordOf columns x) ≡ x
 label-at x h = label-iff (wordOf columns x) x h .1 refl
 
 pub label-none : (w : ℕ) → (labelOf w ≡ 4096) ↔ ((x : ℕ) → x < 4096 → wordOf columns x ≡ w → ⊥)
 unfolding labelOf
-label-none w =
-    (λ e x h q. omega (arith, label-iff w x h .1 q),
-    λ n. seek-none w codewords (λ i h q. let hi : i < 4096 = omega (arith, codewords-length) in n i hi (sym (codewords-at i hi) ∙ q))
-    ∙ codewords-length)
+label-none w = (
+  λ e x h q. omega (arith, label-iff w x h .1 q),
+  λ n. seek-none w codewords (λ i h q. let hi : i < 4096 = omega (arith, codewords-length) in n i hi (sym (codewords-at i hi) ∙ q))
+      ∙ codewords-length,
+)
 
 -- ---- a whole path
 pub label-parts : (s8 b1 b2 b3 : ℕ) → s8 < 64 → b1 < 2 → b2 < 16 → b3 < 2
@@ -250,10 +261,11 @@ path-word s8 b1 b2 b3 h1 h2 h3 h4 =
 pub walk-back : (x : ℕ) → (openingOf (first (wordOf columns x)) ≡ From (s8Of x) (b1Of x))
     × (passageOf (s8Of x) (second (wordOf columns x)) ≡ Along (b2Of x) (s16Of x)) × (closingOf (s16Of x) (third (wordOf columns x)) ≡ By (b3Of x))
 walk-back x =
-    let w = wordOf columns x in
-    (opening-by _ _ (opening-iff (first w) (s8Of x) (b1Of x) .1 (omega arith, omega arith, sym (first-at x))),
-    passage-by _ _ (passage-iff (s8Of x) (second w) (b2Of x) (s16Of x) .1 (omega arith, omega arith, sym (second-at x), refl)),
-    closing-by _ _ (closing-iff (s16Of x) (third w) (b3Of x) .1 (next-lt (s8Of x) (b2Of x), omega arith, sym (third-at x))))
+    let w = wordOf columns x in (
+      opening-by _ _ (opening-iff (first w) (s8Of x) (b1Of x) .1 (omega arith, omega arith, sym (first-at x))),
+      passage-by _ _ (passage-iff (s8Of x) (second w) (b2Of x) (s16Of x) .1 (omega arith, omega arith, sym (second-at x), refl)),
+      closing-by _ _ (closing-iff (s16Of x) (third w) (b3Of x) .1 (next-lt (s8Of x) (b2Of x), omega arith, sym (third-at x))),
+    )
 
 -- and three bytes that lead back along a path are the sections of its codeword
 pub walk-word : (c1 c2 c3 s8 b1 b2 s16 b3 : ℕ) → openingOf c1 ≡ From s8 b1 → passageOf s8 c2 ≡ Along b2 s16 → closingOf s16 c3 ≡ By b3

@@ -77,6 +77,7 @@ word-low (c ∷ cs) x =
   where
     odd : x % 2 ^ suc (length cs) % 2 ≡ x % 2
     odd = ap (λ (m : ℕ). x % 2 ^ m % 2) (sym (add-one (length cs))) ∙ mod-mod-pow x (length cs) 1
+
     half : x % 2 ^ suc (length cs) / 2 ≡ x / 2 % 2 ^ length cs
     half = ap (λ (m : ℕ). x % 2 ^ m / 2) (sym (add-one (length cs))) ∙ field x (length cs) 1
 

@@ -26,8 +26,11 @@ module _ (cut : ℕ) (f g : ℕ → ℕ) (A : Numbered cut f) (B : Numbered cut 
   same-least : (s : ℕ) → s < 64 → wordOf columns (A .least s) ≡ wordOf columns (B .least (turned s))
   unfolding turned
   same-least s h =
-      omega (arith, B .smallest (A .least s),
-      subst (λ (t : ℕ). wordOf columns (A .least t) ≤ wordOf columns (B .least (turned s))) (back s h) (A .smallest (B .least (turned s))))
+      omega (
+        arith,
+        B .smallest (A .least s),
+        subst (λ (t : ℕ). wordOf columns (A .least t) ≤ wordOf columns (B .least (turned s))) (back s h) (A .smallest (B .least (turned s))),
+      )
 
   turned-up : (s t : ℕ) → s < t → t < 64 → turned s < turned t
   unfolding turned
@@ -35,8 +38,10 @@ module _ (cut : ℕ) (f g : ℕ → ℕ) (A : Numbered cut f) (B : Numbered cut 
     where
       ahead : wordOf columns (B .least (turned s)) < wordOf columns (B .least (turned t))
       ahead = omega (arith, A .ascending s t h k, same-least s (omega arith), same-least t k)
+
       not-after : turned t < turned s → ⊥
       not-after l = omega (arith, ahead, B .ascending (turned t) (turned s) l (B .state-lt (A .least s)))
+
       not-same : turned t ≡ turned s → ⊥
       not-same e = omega (arith, ahead, ap (λ (n : ℕ). wordOf columns (B .least n)) e)
 

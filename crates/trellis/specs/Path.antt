@@ -139,10 +139,12 @@ next-read x = read 10 16 nexts (s8Of x) (b2Of x) (omega arith) (omega arith)
 tree-path : (x : ℕ) → treePath x ≡ path (s8Of x) (b1Of x) (b2Of x) (b3Of x)
 unfolding treePath prefixTree middleTree suffixTree prefixOf middleOf suffixOf
 tree-path x =
-    rw (read 7 2 prefixes (s8Of x) (b1Of x) (omega arith) (omega arith)
-    , read 10 16 middles (s8Of x) (b2Of x) (omega arith) (omega arith)
-    , next-read x
-    , read 7 2 suffixes (s16Of x) (b3Of x) (omega arith) (omega (arith, next-lt (s8Of x) (b2Of x))))
+    rw (
+      read 7 2 prefixes (s8Of x) (b1Of x) (omega arith) (omega arith),
+      read 10 16 middles (s8Of x) (b2Of x) (omega arith) (omega arith),
+      next-read x,
+      read 7 2 suffixes (s16Of x) (b3Of x) (omega arith) (omega (arith, next-lt (s8Of x) (b2Of x))),
+    )
 
 low-at : (x : ℕ) → x < 4096 → wordOf columns x ≡ path (s8Of x) (b1Of x) (b2Of x) (b3Of x)
 unfolding onPath

@@ -93,9 +93,11 @@ module _ (cut k : ℕ) (state : ℕ → ℕ) (cs ls : List ℕ) (tree : Tree)
   sum-zero : {v : ℕ} → Sum cut v → (z : ℕ) × (wordOf columns z ≡ v) × (state z ≡ 0)
   sum-zero none = (0, word-zero columns, sums 0 0 ∙ xor-self (state 0))
   sum-zero (plus x o s) =
-      let r = sum-zero s in
-      (bitXor x (r .0), linear columns x (r .0) ∙ ap (bitXor (wordOf columns x)) (r .1),
-      sums x (r .0) ∙ ap₂ bitXor (one-side x o) (r .2))
+      let r = sum-zero s in (
+        bitXor x (r .0),
+        linear columns x (r .0) ∙ ap (bitXor (wordOf columns x)) (r .1),
+        sums x (r .0) ∙ ap₂ bitXor (one-side x o) (r .2),
+      )
 
   share-to : (x y : ℕ) → state x ≡ state y → Share cut (wordOf columns x) (wordOf columns y)
   share-to x y e =

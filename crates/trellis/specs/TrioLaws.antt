@@ -39,11 +39,11 @@ trio-fits k h =
     let a = getD order k 0 in
     let b = getD places k 0 in
     let t = split4 (ltb a 24) (ltb b 24) (eqb (getD places a 0) k) (eqb (getD order b 0) k) (below 24 fits all-fit k h) in
-    record
-    { order-lt = ltb→lt a 24 (t .0)
-    ; place-lt = ltb→lt b 24 (t .1)
-    ; place-order = eqb→eq (getD places a 0) k (t .2)
-    ; order-place = eqb→eq (getD order b 0) k (t .3)
+    record {
+      order-lt = ltb→lt a 24 (t .0);
+      place-lt = ltb→lt b 24 (t .1);
+      place-order = eqb→eq (getD places a 0) k (t .2);
+      order-place = eqb→eq (getD order b 0) k (t .3);
     }
 
 -- eight coordinates each, none in two of them, and all 24 in one

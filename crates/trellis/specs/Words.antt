@@ -35,6 +35,7 @@ weave-at c (w ∷ ws) (suc (suc x)) h =
   where
     odd : suc (suc x) % 2 ≡ x % 2
     odd = omega arith
+
     half : suc (suc x) / 2 ≡ suc (x / 2)
     half = omega arith
 

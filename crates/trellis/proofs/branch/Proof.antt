@@ -10,14 +10,14 @@ use Rattle.trellis.proofs.branch.Tie as tie
 
 returns : tie.Need-returns
 unfolding middleOf nextOf
-returns c = 
+returns c =
     let s = c .before .args .s8 in
     let b = c .before .args .b2 in
     rw (row-beyond 16 middles s b (omega (arith, middles-length)), row-beyond 16 nexts s b (omega (arith, nexts-length)))
 
 returns-2 : tie.Need-returns-2
 unfolding middleOf nextOf
-returns-2 c = 
+returns-2 c =
     let s = c .before .before .args .s8 in
     let b = c .before .before .args .b2 in
     rw (row-past 16 middles s b (omega arith), row-past 16 nexts s b (omega arith))
@@ -36,7 +36,7 @@ array-read-t13 c = search needs
 
 returns-3 : tie.Need-returns-3
 unfolding middleOf nextOf middles nexts
-returns-3 c = 
+returns-3 c =
     let s = c .before .before .args .s8 in
     let b = c .before .before .args .b2 in
     rw (row-at 16 middles s b (omega arith), row-at 16 nexts s b (omega arith))

@@ -16,12 +16,12 @@ branch-requires : tie.Need-branch-requires
 branch-requires c κs = search needs
 
 returns-2 : tie.Need-returns-2
-returns-2 c = 
+returns-2 c =
     let a = c .before .before .before .before .args in
     pass-found (a .s8) (a .c2) (a .c2 / 16) (c .before .before .branch .result) (c .before .before .branch .ensures) (omega arith) (omega arith) (c .if2 .taken)
 
 returns-3 : tie.Need-returns-3
-returns-3 c = 
+returns-3 c =
     let a = c .before .before .before .before .args in
     pass-none (a .s8) (a .c2) (c .before .before .branch .result) (c .before .before .branch .ensures) (omega arith) (c .if2 .left)
 

@@ -17,12 +17,12 @@ codeword-requires c κs = search needs
 
 returns : tie.Need-returns
 unfolding backColumns
-returns c = 
+returns c =
     label-found (c .before .before .before .before .args .c) (c .before .before .combine .result) (c .before .codeword .result) (c .before .before .combine .ensures) (c .before .codeword .ensures) (c .if1 .taken)
 
 returns-2 : tie.Need-returns-2
 unfolding backColumns
-returns-2 c = 
+returns-2 c =
     label-lost (c .before .before .before .before .args .c) (c .before .before .combine .result) (c .before .codeword .result) (c .before .before .combine .ensures) (c .before .codeword .ensures) (c .if1 .left)
 
 pub label-of-spec : {M : Type 1} → statement M

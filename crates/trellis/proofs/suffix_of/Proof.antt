@@ -12,7 +12,7 @@ suffix-requires : tie.Need-suffix-requires
 suffix-requires c κs = search needs
 
 returns-2 : tie.Need-returns-2
-returns-2 c = 
+returns-2 c =
     let a = c .before .before .before .args in
     close-found (a .s16) (a .c3) 0 (c .before .suffix .result) (c .before .suffix .ensures) (omega arith) (omega arith) (c .if2 .taken)
 
@@ -20,12 +20,12 @@ suffix-requires-2 : tie.Need-suffix-requires-2
 suffix-requires-2 c κs = search needs
 
 returns-3 : tie.Need-returns-3
-returns-3 c = 
+returns-3 c =
     let a = c .before .before .before .before .before .args in
     close-found (a .s16) (a .c3) 1 (c .before .suffix2 .result) (c .before .suffix2 .ensures) (omega arith) (omega arith) (c .if3 .taken)
 
 returns-4 : tie.Need-returns-4
-returns-4 c = 
+returns-4 c =
     let a = c .before .before .before .before .before .args in
     let f = c .before .before .before .suffix in
     let g = c .before .suffix2 in
