@@ -9,8 +9,8 @@ use borrow.Author.Count.{below-more}
 use lib.ListN.{length, getD, set, drop}
 use lib.Seq.{getD-set-same, getD-set-other, drop-cons, sets}
 
--- f 0, f 1, .., n of them
-abbrev pub tab {ℓ} : {A : Type ℓ} → (ℕ → A) → ℕ → List A
+-- f 0, f 1, .., n of them. It stays shut: at a large n it would be written out wherever it stands
+unfoldable pub tab {ℓ} : {A : Type ℓ} → (ℕ → A) → ℕ → List A
 tab f zero = []
 tab f (suc n) = f 0 ∷ tab (λ (k : ℕ). f (suc k)) n
 
@@ -24,6 +24,7 @@ filled-more A d f xs j v h e p =
 -- all of them filled
 pub filled : (A : Type 0) (d : A) (n : ℕ) (f : ℕ → A) (xs : List A) → length xs ≡ n
     → ((k : ℕ) → k < n → getD xs k d ≡ f k) → xs ≡ tab f n
+unfolding tab
 filled A d zero f [] e p = refl
 filled A d zero f (x ∷ xs) e p = absurd (omega arith)
 filled A d (suc n) f [] e p = absurd (omega arith)
@@ -32,10 +33,12 @@ filled A d (suc n) f (x ∷ xs) e p =
     (filled A d n (λ (k : ℕ). f (suc k)) xs (omega arith) (λ k l. p (suc k) (suc-le-suc l)))
 
 pub tab-length : (A : Type 0) (f : ℕ → A) (n : ℕ) → length (tab f n) ≡ n
+unfolding tab
 tab-length A f zero = refl
 tab-length A f (suc n) = ap suc (tab-length A (λ (k : ℕ). f (suc k)) n)
 
 pub tab-at : (A : Type 0) (d : A) (f : ℕ → A) (n k : ℕ) → k < n → getD (tab f n) k d ≡ f k
+unfolding tab
 tab-at A d f zero k h = absurd (not-suc-le-zero h)
 tab-at A d f (suc n) zero h = refl
 tab-at A d f (suc n) (suc k) h = tab-at A d (λ (m : ℕ). f (suc m)) n k (le-of-suc-le-suc h)
