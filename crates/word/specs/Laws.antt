@@ -22,23 +22,33 @@ fits-narrow f e =
     let b1 = and-eq-true-iff _ _ .0 (i1 .0) in
     let s8 = and-eq-true-iff _ _ .0 (b1 .0) in
     let r = and-eq-true-iff _ _ .0 (s8 .0) in
-    record
-      { p = ltb-true _ _ (r .0)
-      ; r = ltb-true _ _ (r .1)
-      ; s8 = ltb-true _ _ (s8 .1)
-      ; b1 = ltb-true _ _ (b1 .1)
-      ; i1 = ltb-true _ _ (i1 .1)
-      ; b2 = ltb-true _ _ (b2 .1)
-      ; i2 = ltb-true _ _ (i2 .1)
-      ; b3 = ltb-true _ _ (b3 .1)
-      ; i3 = ltb-true _ _ (i3 .1)
-      ; gain = ltb-true _ _ (gain .1)
-      }
+    record {
+      p = ltb-true _ _ (r .0);
+      r = ltb-true _ _ (r .1);
+      s8 = ltb-true _ _ (s8 .1);
+      b1 = ltb-true _ _ (b1 .1);
+      i1 = ltb-true _ _ (i1 .1);
+      b2 = ltb-true _ _ (b2 .1);
+      i2 = ltb-true _ _ (i2 .1);
+      b3 = ltb-true _ _ (b3 .1);
+      i3 = ltb-true _ _ (i3 .1);
+      gain = ltb-true _ _ (gain .1);
+    }
 
 pub narrow-fits : (f : Fields) → Narrow f → fits f ≡ true
 narrow-fits f n =
-    rw
-    (lt-ltb _ _ (n .p), lt-ltb _ _ (n .r), lt-ltb _ _ (n .s8), lt-ltb _ _ (n .b1), lt-ltb _ _ (n .i1), lt-ltb _ _ (n .b2), lt-ltb _ _ (n .i2), lt-ltb _ _ (n .b3), lt-ltb _ _ (n .i3), lt-ltb _ _ (n .gain))
+    rw (
+      lt-ltb _ _ (n .p),
+      lt-ltb _ _ (n .r),
+      lt-ltb _ _ (n .s8),
+      lt-ltb _ _ (n .b1),
+      lt-ltb _ _ (n .i1),
+      lt-ltb _ _ (n .b2),
+      lt-ltb _ _ (n .i2),
+      lt-ltb _ _ (n .b3),
+      lt-ltb _ _ (n .i3),
+      lt-ltb _ _ (n .gain),
+    )
 
 -- ---- sizes
 cut-lt : (lo width w : ℕ) → cut lo width w < 2 ^ width
@@ -48,18 +58,18 @@ cut-lt lo width w = mod-lt (w / 2 ^ lo) (pow-pos width)
 -- the fields of a word fit
 pub split-narrow : (w : ℕ) → Narrow (fieldsOf w)
 split-narrow w =
-    record
-      { p = cut-lt 0 1 w
-      ; r = cut-lt 1 1 w
-      ; s8 = cut-lt 2 6 w
-      ; b1 = cut-lt 8 1 w
-      ; i1 = cut-lt 9 11 w
-      ; b2 = cut-lt 20 4 w
-      ; i2 = cut-lt 24 11 w
-      ; b3 = cut-lt 35 1 w
-      ; i3 = cut-lt 36 11 w
-      ; gain = cut-lt 47 1 w
-      }
+    record {
+      p = cut-lt _ _ w;
+      r = cut-lt _ _ w;
+      s8 = cut-lt _ _ w;
+      b1 = cut-lt _ _ w;
+      i1 = cut-lt _ _ w;
+      b2 = cut-lt _ _ w;
+      i2 = cut-lt _ _ w;
+      b3 = cut-lt _ _ w;
+      i3 = cut-lt _ _ w;
+      gain = cut-lt _ _ w;
+    }
 
 pub join-lt : (f : Fields) → Narrow f → wordOf f < 2 ^ 48
 join-lt f n = omega arith
@@ -76,8 +86,18 @@ low-first w = omega arith
 
 pub join-split : (w : ℕ) → wordOf (fieldsOf w) ≡ w % 2 ^ 48
 join-split w =
-    rw
-    (low-step w 1 47, low-step w 11 36, low-step w 1 35, low-step w 11 24, low-step w 4 20, low-step w 11 9, low-step w 1 8, low-step w 6 2, low-step w 1 1, low-first w)
+    rw (
+      low-step w 1 47,
+      low-step w 11 36,
+      low-step w 1 35,
+      low-step w 11 24,
+      low-step w 4 20,
+      low-step w 11 9,
+      low-step w 1 8,
+      low-step w 6 2,
+      low-step w 1 1,
+      low-first w,
+    )
 
 -- ---- split of a join: the fields
 -- where two numbers are equal, so are their lowest digits and what stands above those

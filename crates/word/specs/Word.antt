@@ -12,18 +12,18 @@ cut lo width w = (w / 2 ^ lo) % 2 ^ width
 -- the ten fields of a word, low bit and width of each; bits 48 and up are ignored
 abbrev pub fieldsOf : ℕ → Fields
 fieldsOf w =
-    record
-      { p = cut 0 1 w
-      ; r = cut 1 1 w
-      ; s8 = cut 2 6 w
-      ; b1 = cut 8 1 w
-      ; i1 = cut 9 11 w
-      ; b2 = cut 20 4 w
-      ; i2 = cut 24 11 w
-      ; b3 = cut 35 1 w
-      ; i3 = cut 36 11 w
-      ; gain = cut 47 1 w
-      }
+    record {
+      p = cut 0 1 w;
+      r = cut 1 1 w;
+      s8 = cut 2 6 w;
+      b1 = cut 8 1 w;
+      i1 = cut 9 11 w;
+      b2 = cut 20 4 w;
+      i2 = cut 24 11 w;
+      b3 = cut 35 1 w;
+      i3 = cut 36 11 w;
+      gain = cut 47 1 w;
+    }
 
 -- whether each field fits its width
 abbrev pub fits : Fields → Bool

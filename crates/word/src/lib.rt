@@ -10,27 +10,36 @@ struct Slot {
 }
 
 const P: Slot = Slot { lo: 0, width: 1 };
+
 const R: Slot = Slot { lo: 1, width: 1 };
+
 const S8: Slot = Slot { lo: 2, width: 6 };
+
 const B1: Slot = Slot { lo: 8, width: 1 };
+
 const I1: Slot = Slot { lo: 9, width: 11 };
+
 const B2: Slot = Slot { lo: 20, width: 4 };
+
 const I2: Slot = Slot { lo: 24, width: 11 };
+
 const B3: Slot = Slot { lo: 35, width: 1 };
+
 const I3: Slot = Slot { lo: 36, width: 11 };
+
 const GAIN: Slot = Slot { lo: 47, width: 1 };
 
 // The fields of a word, lowest first, each in the narrowest type that holds it.
 pub struct Fields {
-    pub p: u8,    // the parity that the 24 coordinates share
-    pub r: u8,    // the class of section 1
-    pub s8: u8,   // the state at cut 8
-    pub b1: u8,   // which of its two prefixes
-    pub i1: u16,  // the row of section 1 in its class
-    pub b2: u8,   // the branch out of the state
-    pub i2: u16,  // the row of section 2 in the middle's order
-    pub b3: u8,   // which of the two suffixes at cut 16
-    pub i3: u16,  // the row of section 3 in its class
+    pub p: u8, // the parity that the 24 coordinates share
+    pub r: u8, // the class of section 1
+    pub s8: u8, // the state at cut 8
+    pub b1: u8, // which of its two prefixes
+    pub i1: u16, // the row of section 1 in its class
+    pub b2: u8, // the branch out of the state
+    pub i2: u16, // the row of section 2 in the middle's order
+    pub b3: u8, // which of the two suffixes at cut 16
+    pub i3: u16, // the row of section 3 in its class
     pub gain: u8, // carried by the word, never decoded
 }
 

@@ -75,8 +75,19 @@ returns c =
     let at3 = at4 .before .before in
     let at2 = at3 .before .before in
     let at1 = at2 .before .before in
-    omega
-    (arith, c .put10 .ensures .0, at9 .put9 .ensures .0, at8 .put8 .ensures .0, at7 .put7 .ensures .0, at6 .put6 .ensures .0, at5 .put5 .ensures .0, at4 .put4 .ensures .0, at3 .put3 .ensures .0, at2 .put2 .ensures .0, at1 .put .ensures .0)
+    omega (
+      arith,
+      c .put10 .ensures .0,
+      at9 .put9 .ensures .0,
+      at8 .put8 .ensures .0,
+      at7 .put7 .ensures .0,
+      at6 .put6 .ensures .0,
+      at5 .put5 .ensures .0,
+      at4 .put4 .ensures .0,
+      at3 .put3 .ensures .0,
+      at2 .put2 .ensures .0,
+      at1 .put .ensures .0,
+    )
 
 pub put-all-spec : {M : Type 1} → statement M
 put-all-spec =
