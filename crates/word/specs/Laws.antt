@@ -7,8 +7,9 @@ use native.Mathlib.Omega.{arith}
 use borrow.Author.Tests.{ltb-true, lt-ltb}
 use lib.Arith.{digits-div, digits-mod}
 use lib.Pow.{mod-pow-add, pow-pos}
+use Rattle.laws.specs.Tests.{is-true, is-false}
 use Rattle.word.specs.declared.Fields.{Fields}
-use Rattle.word.specs.Word.{cut, fieldsOf, fits, Narrow, wordOf}
+use Rattle.word.specs.Word.{cut, fieldsOf, fits, Narrow, wordOf, joinOf}
 
 -- ---- the test and the facts
 pub fits-narrow : (f : Fields) → fits f ≡ true → Narrow f
@@ -49,6 +50,15 @@ narrow-fits f n =
       lt-ltb _ _ (n .i3),
       lt-ltb _ _ (n .gain),
     )
+
+-- `join` answers the word where the fields fit, and refuses where they do not
+pub join-accepts : (f : Fields) → Narrow f → joinOf f ≡ record { number = 0; word = wordOf f }
+unfolding joinOf
+join-accepts f n = rw (narrow-fits f n)
+
+pub join-refuses : (f : Fields) → (Narrow f → ⊥) → joinOf f ≡ record { number = 6; word = 0 }
+unfolding joinOf
+join-refuses f n = rw (is-false (fits f) (λ t. n (fits-narrow f (is-true (fits f) t))))
 
 -- ---- sizes
 cut-lt : (lo width w : ℕ) → cut lo width w < 2 ^ width
@@ -137,6 +147,7 @@ pub split-low : (w : ℕ) → fieldsOf (w % 2 ^ 48) ≡ fieldsOf w
 split-low w = rw join-split at (split-join (fieldsOf w) (split-narrow w))
 
 -- ---- without the gain: the low 47 bits
+-- the fields with gain 0
 abbrev pub noGain : Fields → Fields
 noGain f = record { p = f .p; r = f .r; s8 = f .s8; b1 = f .b1; i1 = f .i1; b2 = f .b2; i2 = f .i2; b3 = f .b3; i3 = f .i3; gain = 0 }
 

@@ -43,6 +43,7 @@ put-requires-6 c κs = search needs
 cast-put-7 : tie.Need-cast-put-7
 cast-put-7 c = search needs
 
+-- from here on omega does not look back as far as what the function requires
 put-requires-7 : tie.Need-put-requires-7
 put-requires-7 c κs = omega (arith, c .before .before .before .before .before .before .before .before .before .before .before .before .before .pre)
 
