@@ -8,37 +8,37 @@ cast-put : tie.Need-cast-put
 cast-put c = search needs
 
 put-requires : tie.Need-put-requires
-put-requires c κs = search needs
+put-requires c κs = omega arith
 
 cast-put-2 : tie.Need-cast-put-2
 cast-put-2 c = search needs
 
 put-requires-2 : tie.Need-put-requires-2
-put-requires-2 c κs = search needs
+put-requires-2 c κs = omega arith
 
 cast-put-3 : tie.Need-cast-put-3
 cast-put-3 c = search needs
 
 put-requires-3 : tie.Need-put-requires-3
-put-requires-3 c κs = search needs
+put-requires-3 c κs = omega arith
 
 cast-put-4 : tie.Need-cast-put-4
 cast-put-4 c = search needs
 
 put-requires-4 : tie.Need-put-requires-4
-put-requires-4 c κs = search needs
+put-requires-4 c κs = omega arith
 
 cast-put-5 : tie.Need-cast-put-5
 cast-put-5 c = search needs
 
 put-requires-5 : tie.Need-put-requires-5
-put-requires-5 c κs = search needs
+put-requires-5 c κs = omega arith
 
 cast-put-6 : tie.Need-cast-put-6
 cast-put-6 c = search needs
 
 put-requires-6 : tie.Need-put-requires-6
-put-requires-6 c κs = search needs
+put-requires-6 c κs = omega arith
 
 cast-put-7 : tie.Need-cast-put-7
 cast-put-7 c = search needs

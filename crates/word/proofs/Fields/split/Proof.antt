@@ -64,7 +64,28 @@ cast-t31 : tie.Need-cast-t31
 cast-t31 c = search needs
 
 returns : tie.Need-returns
-returns c = cc
+returns c =
+    let at9 = c .before in
+    let at8 = at9 .before in
+    let at7 = at8 .before in
+    let at6 = at7 .before in
+    let at5 = at6 .before in
+    let at4 = at5 .before in
+    let at3 = at4 .before in
+    let at2 = at3 .before in
+    let at1 = at2 .before in
+    rw (
+      c .get10 .ensures .0,
+      at9 .get9 .ensures .0,
+      at8 .get8 .ensures .0,
+      at7 .get7 .ensures .0,
+      at6 .get6 .ensures .0,
+      at5 .get5 .ensures .0,
+      at4 .get4 .ensures .0,
+      at3 .get3 .ensures .0,
+      at2 .get2 .ensures .0,
+      at1 .get .ensures .0,
+    )
 
 pub split-spec : {M : Type 1} → statement M
 split-spec =
