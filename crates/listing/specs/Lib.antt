@@ -1,1 +1,3 @@
 pub mod Listing
+pub mod Lent
+pub mod Laws
