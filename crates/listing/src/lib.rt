@@ -1,4 +1,4 @@
-// The listing of the cheap rank vectors: `under_cap` of rank.rs, and the public call that lends it a buffer.
+// The listing of the cheap rank vectors: `under_cap` of rank.rs, and the public call, which lists into a buffer that the caller lends.
 ghost use mathlib.Core.Path.{_≡_};
 ghost use Prim.Native.Nat.{_+_, _*_, _-_, _^_, _<_, _≤_};
 ghost use lib.ListN.{length};
@@ -67,7 +67,10 @@ pub fn list(out: &mut [u32]) -> Listed
     ensures { λ r. ⌜ (r ≡ answered (length (now (out .entry)))) × (now (out .exit) ≡ written (now (out .entry))) ⌝ }
 {
     if out.len() < CELLS {
-        return Listed { number: 8, count: 0 };
+        return Listed {
+            number: 8,
+            count: 0,
+        };
     }
     let count = under_cap(out, 0, 0, 8, 0);
     Listed { number: 0, count }

@@ -2,18 +2,17 @@
 -- left: to store the rest of the listing from `at` on gives what to store all of it from `n` on would have given. Assumes nothing.
 use borrow.Author.Needs.{needs}
 use mathlib.Core.Path.{_≡_, refl, ap, sym, _∙_}
-use mathlib.Core.List.{List, [], _∷_, _++_}
-use Prim.Native.Nat.{ℕ, suc, _+_, _*_, _-_, _^_, _<_, _≤_}
+use mathlib.Core.List.{List, _++_}
+use Prim.Native.Nat.{ℕ, _+_, _-_, _<_, _≤_}
 use native.Mathlib.Omega.{arith}
 use borrow.Fn.Kinds.{In, Out}
 use borrow.Fn.PlainCycle.{Measures, is, falls, and}
 use lib.ListN.{length, length-append, length-set}
 use lib.Seq.{sets}
 use Rattle.laws.specs.Lists.{sets-append}
-use Rattle.rank.specs.Vector.{sq}
-use Rattle.listing.specs.Listing.{cap, under}
-use Rattle.listing.specs.Laws.{below-six}
-use Rattle.listing.proofs.Growth.{under-none, rest-of, rest-all, rest-more, rest-none}
+use Rattle.listing.specs.Listing.{under}
+use Rattle.listing.specs.Growth.{below-six}
+use Rattle.listing.proofs.Rest.{under-none, rest-of, rest-all, rest-more, rest-none}
 use Rattle.listing.proofs.under_cap.Reads as reads
 use Rattle.listing.proofs.under_cap.Kinds as kinds
 use Rattle.listing.proofs.+under_cap.Lts-under_cap as lts
@@ -129,9 +128,10 @@ module _ (t : ℕ) where
       let st = c .before .before .before .before .before .before .before in
       let l = c .before .before .before .before .loop in
       let e : 7 - (st .args .left - 1) + 1 ≡ 8 - (st .args .left - 1) = omega arith in
-      let long = ap length (more (c .before)) ∙ length-append (listed (c .before)) (left-from (c .before .before .before .before) (l .r + 1)) in
-      (omega (arith, st .pre .0),
-      (omega arith, omega arith, rw e at (c .before .with-rank .ensures .1), omega (arith, st .pre .1 .3, l .inv .1, l .inv .2, long)))
+      let long = ap length (more (c .before)) ∙ length-append (listed (c .before)) (left-from (c .before .before .before .before) (l .r + 1)) in (
+        omega (arith, st .pre .0),
+        (omega arith, omega arith, rw e at (c .before .with-rank .ensures .1), omega (arith, st .pre .1 .3, l .inv .1, l .inv .2, long)),
+      )
 
   add-r : in-call t lts.Need-add-r
   add-r c = omega (arith, c .before .before .before .before .before .before .before .loop .inv .0)
@@ -144,10 +144,12 @@ module _ (t : ℕ) where
       let w = c .before .before .before .before in
       let l = w .before .before .before .loop in
       let f = c .before .before .under-cap in
-      let later = left-from (w .before .before .before) (l .r + 1) in
-      (omega (arith, six w), f .kept .0 ∙ l .inv .1,
-      omega (arith, f .ensures .0, ap length (more w) ∙ length-append (listed w) later, l .inv .2),
-      cc (more w, sets-append ℕ (listed w) later (l .out) (l .at), f .ensures .0, f .ensures .1, l .inv .3))
+      let later = left-from (w .before .before .before) (l .r + 1) in (
+        omega (arith, six w),
+        f .kept .0 ∙ l .inv .1,
+        omega (arith, f .ensures .0, ap length (more w) ∙ length-append (listed w) later, l .inv .2),
+        cc (more w, sets-append ℕ (listed w) later (l .out) (l .at), f .ensures .0, f .ensures .1, l .inv .3),
+      )
 
   same-length-2 : in-call t lts.Need-same-length-2
   same-length-2 c = c .before .before .loop .inv .1

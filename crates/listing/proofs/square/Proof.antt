@@ -2,9 +2,7 @@
 use borrow.Author.Needs.{needs}
 use native.Mathlib.Omega.{arith}
 use mathlib.Core.Path.{refl}
-use Prim.Native.Nat.{_≤_}
-use Rattle.rank.specs.Vector.{sq}
-use Rattle.listing.specs.Laws.{sq-mono}
+use Rattle.listing.specs.Growth.{sq-mono}
 use Rattle.listing.proofs.square.Statement.{statement}
 use Rattle.listing.proofs.square.Tie as tie
 

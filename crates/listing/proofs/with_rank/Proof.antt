@@ -1,7 +1,6 @@
 -- `listing::with_rank` meets its contract: the rank goes above what the row holds, so `|` is a sum. Assumes nothing.
 use borrow.Author.Needs.{needs}
-use mathlib.Core.Path.{_≡_, _∙_}
-use Prim.Native.Nat.{_+_, _*_, _^_, _<_}
+use Prim.Native.Nat.{_*_, _^_}
 use native.Mathlib.Nat.{add-comm, mul-comm, mul-add}
 use native.Mathlib.Omega.{arith}
 use lib.Arith.{digits-lt}

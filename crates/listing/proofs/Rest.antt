@@ -1,11 +1,11 @@
 -- What `under` lists, taken apart as `under_cap` goes over the ranks of the first open coordinate. Assumes nothing.
-use mathlib.Core.Path.{_≡_, refl, ap, _∙_}
+use mathlib.Core.Path.{_≡_, ap}
 use mathlib.Core.List.{List, [], _∷_, _++_}
-use Prim.Native.Nat.{ℕ, zero, suc, _+_, _*_, _-_, _^_, _<_, _≤_}
+use Prim.Native.Nat.{ℕ, suc, _+_, _*_, _-_, _^_, _<_, _≤_}
 use native.Mathlib.Omega.{arith}
 use Rattle.rank.specs.Vector.{sq}
 use Rattle.listing.specs.Listing.{cap, grow, under}
-use Rattle.listing.specs.Laws.{below-six, grow-more, grow-stop}
+use Rattle.listing.specs.Growth.{below-six, grow-more, grow-stop}
 
 -- no coordinate is open
 pub under-none : (left row spent : ℕ) → left ≡ 0 → under left row spent ≡ row ∷ []
