@@ -12,10 +12,13 @@ pub under-none : (left row spent : ℕ) → left ≡ 0 → under left row spent 
 unfolding under
 under-none left row spent e = rw e
 
--- what is left to list from the rank r on, with `rest` coordinates open after this one
+-- what is listed with the rank k, with `rest` coordinates open after this one
+abbrev rank-at : ℕ → ℕ → ℕ → ℕ → List ℕ
+rank-at rest row spent k = under rest (row + k * 2 ^ (4 * (7 - rest))) (spent + sq k)
+
+-- what is left to list from the rank r on
 unfoldable pub rest-of : ℕ → ℕ → ℕ → ℕ → List ℕ
-rest-of rest row spent r =
-    grow (λ (k : ℕ). under rest (row + k * 2 ^ (4 * (7 - rest))) (spent + sq k)) (spent + rest) r (6 - r)
+rest-of rest row spent r = grow (rank-at rest row spent) (spent + rest) r (6 - r)
 
 pub rest-all : (left row spent : ℕ) → 1 ≤ left → under left row spent ≡ rest-of (left - 1) row spent 0
 unfolding under rest-of
@@ -31,10 +34,9 @@ module _ (rest row spent r : ℕ) where
   rest-more next cost p q h =
       let six : r < 6 = below-six r (spent + rest) (omega arith) in
       let e : 6 - r ≡ suc (6 - (r + 1)) = omega arith in
-      rw (p, q, e) (grow-more (λ (k : ℕ). under rest (row + k * 2 ^ (4 * (7 - rest))) (spent + sq k)) (spent + rest) r (6 - (r + 1)) (omega arith))
+      rw (p, q, e) (grow-more (rank-at rest row spent) (spent + rest) r (6 - (r + 1)) (omega arith))
 
   -- the end: nothing is left
   pub rest-none : cap ≤ spent + sq r + rest → rest-of rest row spent r ≡ []
   unfolding rest-of
-  rest-none h =
-      grow-stop (λ (k : ℕ). under rest (row + k * 2 ^ (4 * (7 - rest))) (spent + sq k)) (spent + rest) r (6 - r) (omega arith)
+  rest-none h = grow-stop (rank-at rest row spent) (spent + rest) r (6 - r) (omega arith)
