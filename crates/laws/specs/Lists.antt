@@ -1,6 +1,6 @@
 -- Lists: one that a loop fills place by place, one that a loop takes apart, one after another. Assumes nothing.
 use mathlib.Core.Path.{_≡_, refl, ap, ap₂, sym, _∙_}
-use mathlib.Core.List.{List, [], _∷_, _++_}
+use mathlib.Core.List.{List, [], _∷_, _++_, List·Memᴰ, List·Memᴰ·head, List·Memᴰ·tail, List·Memᴰ·not-nil}
 use Prim.Native.Nat.{ℕ, zero, suc, _+_, _-_, _<_, _≤_, suc-le-suc}
 use native.Mathlib.Nat.{not-suc-le-zero, le-of-suc-le-suc, zero-lt-suc, add-zero, add-suc, suc-add}
 use native.Mathlib.Numerals.{add-one}
@@ -69,3 +69,9 @@ append-past A d (x ∷ u) v (suc j) h = append-past A d u v j (le-of-suc-le-suc 
 pub sets-append : (A : Type 0) (a b l : List A) (i : ℕ) → sets l i (a ++ b) ≡ sets (sets l i a) (i + length a) b
 sets-append A [] b l i = rw add-zero
 sets-append A (x ∷ a) b l i = rw (add-suc, ← suc-add) (sets-append A a b (set l i x) (suc i))
+
+-- ---- a member of a list stands at some place of it
+pub place-of : (A : Type 0) (d x : A) (l : List A) → List·Memᴰ x l → (i : ℕ) × (i < length l) × (getD l i d ≡ x)
+place-of A d x [] m = absurd (List·Memᴰ·not-nil m)
+place-of A d x (y ∷ l) (List·Memᴰ·head e) = (0, zero-lt-suc (length l), sym e)
+place-of A d x (y ∷ l) (List·Memᴰ·tail m) = let p = place-of A d x l m in (suc (p .0), suc-le-suc (p .1), p .2)
