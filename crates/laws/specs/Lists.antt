@@ -2,6 +2,7 @@
 use mathlib.Core.Path.{_≡_, refl, ap, ap₂, sym, _∙_}
 use mathlib.Core.Bool.{Bool, true, false, cond}
 use mathlib.Core.List.{List, [], _∷_, _++_}
+use mathlib.Core.List.{List, [], _∷_, _++_, List·Memᴰ, List·Memᴰ·head, List·Memᴰ·tail, List·Memᴰ·not-nil}
 use Prim.Native.Nat.{ℕ, zero, suc, _+_, _-_, _<_, _≤_, suc-le-suc}
 use native.Mathlib.Nat.{not-suc-le-zero, le-of-suc-le-suc, zero-lt-suc, add-zero, add-suc, suc-add, le-of-eq}
 use native.Mathlib.Numerals.{add-one}
@@ -13,8 +14,8 @@ use lib.Dec.{eqb, ltb}
 use lib.ListN.{length, getD, set, drop}
 use lib.Seq.{getD-set-same, getD-set-other, drop-cons, sets}
 
--- f 0, f 1, .., n of them
-abbrev pub tab {ℓ} : {A : Type ℓ} → (ℕ → A) → ℕ → List A
+-- f 0, f 1, .., n of them. It stays shut: at a large n it would be written out wherever it stands
+unfoldable pub tab {ℓ} : {A : Type ℓ} → (ℕ → A) → ℕ → List A
 tab f zero = []
 tab f (suc n) = f 0 ∷ tab (λ (k : ℕ). f (suc k)) n
 
@@ -28,6 +29,7 @@ filled-more A d f xs j v h e p =
 -- all of them filled
 pub filled : (A : Type 0) (d : A) (n : ℕ) (f : ℕ → A) (xs : List A) → length xs ≡ n
     → ((k : ℕ) → k < n → getD xs k d ≡ f k) → xs ≡ tab f n
+unfolding tab
 filled A d zero f [] e p = refl
 filled A d zero f (x ∷ xs) e p = absurd (omega arith)
 filled A d (suc n) f [] e p = absurd (omega arith)
@@ -36,10 +38,12 @@ filled A d (suc n) f (x ∷ xs) e p =
     (filled A d n (λ (k : ℕ). f (suc k)) xs (omega arith) (λ k l. p (suc k) (suc-le-suc l)))
 
 pub tab-length : (A : Type 0) (f : ℕ → A) (n : ℕ) → length (tab f n) ≡ n
+unfolding tab
 tab-length A f zero = refl
 tab-length A f (suc n) = ap suc (tab-length A (λ (k : ℕ). f (suc k)) n)
 
 pub tab-at : (A : Type 0) (d : A) (f : ℕ → A) (n k : ℕ) → k < n → getD (tab f n) k d ≡ f k
+unfolding tab
 tab-at A d f zero k h = absurd (not-suc-le-zero h)
 tab-at A d f (suc n) zero h = refl
 tab-at A d f (suc n) (suc k) h = tab-at A d (λ (m : ℕ). f (suc m)) n k (le-of-suc-le-suc h)
@@ -162,3 +166,8 @@ look-map A B g f none xs c = go (ltb (seek c xs) (length xs))
     go : (b : Bool) → g (cond b (f (seek c xs)) none) ≡ cond b (g (f (seek c xs))) (g none)
     go true = refl
     go false = refl
+-- ---- a member of a list stands at some place of it
+pub place-of : (A : Type 0) (d x : A) (l : List A) → List·Memᴰ x l → (i : ℕ) × (i < length l) × (getD l i d ≡ x)
+place-of A d x [] m = absurd (List·Memᴰ·not-nil m)
+place-of A d x (y ∷ l) (List·Memᴰ·head e) = (0, zero-lt-suc (length l), sym e)
+place-of A d x (y ∷ l) (List·Memᴰ·tail m) = let p = place-of A d x l m in (suc (p .0), suc-le-suc (p .1), p .2)

@@ -82,3 +82,7 @@ lexLt-trans [] v w s t = absurd s
 lexLt-trans (x ∷ u) [] w s t = absurd s
 lexLt-trans (x ∷ u) (y ∷ v) [] s t = absurd t
 lexLt-trans (x ∷ u) (y ∷ v) (z ∷ w) s t = pick3-trans x y z (lexLt u v) (lexLt v w) (lexLt u w) (lexLt-trans u v w) s t
+
+pub lexLt-irrefl : (v : List ℕ) → T (lexLt v v) → ⊥
+lexLt-irrefl [] t = t
+lexLt-irrefl (x ∷ v) t = lexLt-irrefl v (subst T (pick3-same x x (lexLt v v) refl) t)

@@ -79,3 +79,30 @@ up-distinct xs up i j h k e = omega (arith, before, after)
 
     after : j < i → ⊥
     after l = omega (arith, up j i l h)
+-- ---- along the list each entry stands before the next; where that is transitive, each stands before all that follow
+module _ (b : ℕ → ℕ → Bool) where
+  abbrev pub chainFrom : ℕ → List ℕ → Bool
+  chainFrom p [] = true
+  chainFrom p (x ∷ xs) = b p x && chainFrom x xs
+
+  abbrev pub chain : List ℕ → Bool
+  chain [] = true
+  chain (x ∷ xs) = chainFrom x xs
+
+  module _ (trans : (x y z : ℕ) → T (b x y) → T (b y z) → T (b x z)) where
+    follows : (p : ℕ) (xs : List ℕ) → T (chainFrom p xs) → (k : ℕ) → k < length xs → T (b p (getD xs k 0))
+    follows p [] t k h = absurd (not-suc-le-zero h)
+    follows p (x ∷ xs) t zero h = and-left (b p x) (chainFrom x xs) t
+    follows p (x ∷ xs) t (suc k) h =
+        trans p x (getD xs k 0) (and-left (b p x) (chainFrom x xs) t)
+        (follows x xs (and-right (b p x) (chainFrom x xs) t) k (le-of-suc-le-suc h))
+
+    tail : (p : ℕ) (xs : List ℕ) → T (chainFrom p xs) → T (chain xs)
+    tail p [] t = tt
+    tail p (x ∷ xs) t = and-right (b p x) (chainFrom x xs) t
+
+    pub chain-at : (xs : List ℕ) → T (chain xs) → (i j : ℕ) → i < j → j < length xs → T (b (getD xs i 0) (getD xs j 0))
+    chain-at [] t i j h k = absurd (not-suc-le-zero k)
+    chain-at (x ∷ xs) t i zero h k = absurd (not-suc-le-zero h)
+    chain-at (x ∷ xs) t zero (suc j) h k = follows x xs t j (le-of-suc-le-suc k)
+    chain-at (x ∷ xs) t (suc i) (suc j) h k = chain-at xs (tail x xs t) i j (le-of-suc-le-suc h) (le-of-suc-le-suc k)

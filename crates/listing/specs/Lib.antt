@@ -1,1 +1,4 @@
 pub mod Listing
+pub mod Lent
+pub mod Growth
+pub mod Laws
