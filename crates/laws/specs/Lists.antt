@@ -166,6 +166,7 @@ look-map A B g f none xs c = go (ltb (seek c xs) (length xs))
     go : (b : Bool) → g (cond b (f (seek c xs)) none) ≡ cond b (g (f (seek c xs))) (g none)
     go true = refl
     go false = refl
+
 -- ---- a member of a list stands at some place of it
 pub place-of : (A : Type 0) (d x : A) (l : List A) → List·Memᴰ x l → (i : ℕ) × (i < length l) × (getD l i d ≡ x)
 place-of A d x [] m = absurd (List·Memᴰ·not-nil m)

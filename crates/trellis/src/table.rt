@@ -1,7 +1,7 @@
-// The tables of the trellis, one row after another, and trio order.
-// The coordinate at each place of trio order.
+// Trio order, and the tables of the trellis, one row after another. Each row's first entry names it.
+// The coordinate at each place of trio order, an octad to a row.
 pub const ORDER: [usize; 24] = [
-    0,
+    0, // octad 0
     1,
     2,
     3,
@@ -9,7 +9,7 @@ pub const ORDER: [usize; 24] = [
     7,
     10,
     12,
-    6,
+    6, // octad 1
     11,
     13,
     14,
@@ -17,7 +17,7 @@ pub const ORDER: [usize; 24] = [
     17,
     18,
     19,
-    5,
+    5, // octad 2
     8,
     9,
     15,
@@ -29,7 +29,7 @@ pub const ORDER: [usize; 24] = [
 
 // The place of each coordinate.
 pub const PLACES: [usize; 24] = [
-    0,
+    0, // coordinates from 0
     1,
     2,
     3,
@@ -55,141 +55,141 @@ pub const PLACES: [usize; 24] = [
     23,
 ];
 
-// Two prefix bytes for each state at cut 8.
+// The two prefix bytes of each state at cut 8.
 pub const PREFIXES: [u8; 128] = [
-    0,
+    0, // prefixes of 0
     255,
-    46,
+    46, // prefixes of 1
     209,
-    90,
+    90, // prefixes of 2
     165,
-    116,
+    116, // prefixes of 3
     139,
-    51,
+    51, // prefixes of 4
     204,
-    29,
+    29, // prefixes of 5
     226,
-    105,
+    105, // prefixes of 6
     150,
-    71,
+    71, // prefixes of 7
     184,
-    30,
+    30, // prefixes of 8
     225,
-    48,
+    48, // prefixes of 9
     207,
-    68,
+    68, // prefixes of 10
     187,
-    106,
+    106, // prefixes of 11
     149,
-    45,
+    45, // prefixes of 12
     210,
-    3,
+    3, // prefixes of 13
     252,
-    119,
+    119, // prefixes of 14
     136,
-    89,
+    89, // prefixes of 15
     166,
-    99,
+    99, // prefixes of 16
     156,
-    77,
+    77, // prefixes of 17
     178,
-    57,
+    57, // prefixes of 18
     198,
-    23,
+    23, // prefixes of 19
     232,
-    80,
+    80, // prefixes of 20
     175,
-    126,
+    126, // prefixes of 21
     129,
-    10,
+    10, // prefixes of 22
     245,
-    36,
+    36, // prefixes of 23
     219,
-    125,
+    125, // prefixes of 24
     130,
-    83,
+    83, // prefixes of 25
     172,
-    39,
+    39, // prefixes of 26
     216,
-    9,
+    9, // prefixes of 27
     246,
-    78,
+    78, // prefixes of 28
     177,
-    96,
+    96, // prefixes of 29
     159,
-    20,
+    20, // prefixes of 30
     235,
-    58,
+    58, // prefixes of 31
     197,
-    120,
+    120, // prefixes of 32
     135,
-    86,
+    86, // prefixes of 33
     169,
-    34,
+    34, // prefixes of 34
     221,
-    12,
+    12, // prefixes of 35
     243,
-    75,
+    75, // prefixes of 36
     180,
-    101,
+    101, // prefixes of 37
     154,
-    17,
+    17, // prefixes of 38
     238,
-    63,
+    63, // prefixes of 39
     192,
-    102,
+    102, // prefixes of 40
     153,
-    72,
+    72, // prefixes of 41
     183,
-    60,
+    60, // prefixes of 42
     195,
-    18,
+    18, // prefixes of 43
     237,
-    85,
+    85, // prefixes of 44
     170,
-    123,
+    123, // prefixes of 45
     132,
-    15,
+    15, // prefixes of 46
     240,
-    33,
+    33, // prefixes of 47
     222,
-    27,
+    27, // prefixes of 48
     228,
-    53,
+    53, // prefixes of 49
     202,
-    65,
+    65, // prefixes of 50
     190,
-    111,
+    111, // prefixes of 51
     144,
-    40,
+    40, // prefixes of 52
     215,
-    6,
+    6, // prefixes of 53
     249,
-    114,
+    114, // prefixes of 54
     141,
-    92,
+    92, // prefixes of 55
     163,
-    5,
+    5, // prefixes of 56
     250,
-    43,
+    43, // prefixes of 57
     212,
-    95,
+    95, // prefixes of 58
     160,
-    113,
+    113, // prefixes of 59
     142,
-    54,
+    54, // prefixes of 60
     201,
-    24,
+    24, // prefixes of 61
     231,
-    108,
+    108, // prefixes of 62
     147,
-    66,
+    66, // prefixes of 63
     189,
 ];
 
-// 2 s8 + b1 for each prefix byte, 255 for any other.
+// 2 s8 + b1 for each prefix byte, 255 for any other byte.
 pub const PREFIX_OF: [u8; 256] = [
-    0,
+    0, // bytes from 0
     255,
     255,
     26,
@@ -447,9 +447,9 @@ pub const PREFIX_OF: [u8; 256] = [
     1,
 ];
 
-// The middle bytes of sixteen branches for each state at cut 8.
+// The middle bytes of the sixteen branches out of each state at cut 8.
 pub const MIDDLES: [u8; 1024] = [
-    0,
+    0, // branches of 0
     29,
     43,
     54,
@@ -465,7 +465,7 @@ pub const MIDDLES: [u8; 1024] = [
     212,
     226,
     255,
-    0,
+    0, // branches of 1
     29,
     43,
     54,
@@ -481,7 +481,7 @@ pub const MIDDLES: [u8; 1024] = [
     212,
     226,
     255,
-    0,
+    0, // branches of 2
     29,
     43,
     54,
@@ -497,7 +497,7 @@ pub const MIDDLES: [u8; 1024] = [
     212,
     226,
     255,
-    0,
+    0, // branches of 3
     29,
     43,
     54,
@@ -513,7 +513,7 @@ pub const MIDDLES: [u8; 1024] = [
     212,
     226,
     255,
-    0,
+    0, // branches of 4
     29,
     43,
     54,
@@ -529,7 +529,7 @@ pub const MIDDLES: [u8; 1024] = [
     212,
     226,
     255,
-    0,
+    0, // branches of 5
     29,
     43,
     54,
@@ -545,7 +545,7 @@ pub const MIDDLES: [u8; 1024] = [
     212,
     226,
     255,
-    0,
+    0, // branches of 6
     29,
     43,
     54,
@@ -561,7 +561,7 @@ pub const MIDDLES: [u8; 1024] = [
     212,
     226,
     255,
-    0,
+    0, // branches of 7
     29,
     43,
     54,
@@ -577,7 +577,7 @@ pub const MIDDLES: [u8; 1024] = [
     212,
     226,
     255,
-    6,
+    6, // branches of 8
     27,
     45,
     48,
@@ -593,7 +593,7 @@ pub const MIDDLES: [u8; 1024] = [
     210,
     228,
     249,
-    6,
+    6, // branches of 9
     27,
     45,
     48,
@@ -609,7 +609,7 @@ pub const MIDDLES: [u8; 1024] = [
     210,
     228,
     249,
-    6,
+    6, // branches of 10
     27,
     45,
     48,
@@ -625,7 +625,7 @@ pub const MIDDLES: [u8; 1024] = [
     210,
     228,
     249,
-    6,
+    6, // branches of 11
     27,
     45,
     48,
@@ -641,7 +641,7 @@ pub const MIDDLES: [u8; 1024] = [
     210,
     228,
     249,
-    6,
+    6, // branches of 12
     27,
     45,
     48,
@@ -657,7 +657,7 @@ pub const MIDDLES: [u8; 1024] = [
     210,
     228,
     249,
-    6,
+    6, // branches of 13
     27,
     45,
     48,
@@ -673,7 +673,7 @@ pub const MIDDLES: [u8; 1024] = [
     210,
     228,
     249,
-    6,
+    6, // branches of 14
     27,
     45,
     48,
@@ -689,7 +689,7 @@ pub const MIDDLES: [u8; 1024] = [
     210,
     228,
     249,
-    6,
+    6, // branches of 15
     27,
     45,
     48,
@@ -705,7 +705,7 @@ pub const MIDDLES: [u8; 1024] = [
     210,
     228,
     249,
-    9,
+    9, // branches of 16
     20,
     34,
     63,
@@ -721,7 +721,7 @@ pub const MIDDLES: [u8; 1024] = [
     221,
     235,
     246,
-    9,
+    9, // branches of 17
     20,
     34,
     63,
@@ -737,7 +737,7 @@ pub const MIDDLES: [u8; 1024] = [
     221,
     235,
     246,
-    9,
+    9, // branches of 18
     20,
     34,
     63,
@@ -753,7 +753,7 @@ pub const MIDDLES: [u8; 1024] = [
     221,
     235,
     246,
-    9,
+    9, // branches of 19
     20,
     34,
     63,
@@ -769,7 +769,7 @@ pub const MIDDLES: [u8; 1024] = [
     221,
     235,
     246,
-    9,
+    9, // branches of 20
     20,
     34,
     63,
@@ -785,7 +785,7 @@ pub const MIDDLES: [u8; 1024] = [
     221,
     235,
     246,
-    9,
+    9, // branches of 21
     20,
     34,
     63,
@@ -801,7 +801,7 @@ pub const MIDDLES: [u8; 1024] = [
     221,
     235,
     246,
-    9,
+    9, // branches of 22
     20,
     34,
     63,
@@ -817,7 +817,7 @@ pub const MIDDLES: [u8; 1024] = [
     221,
     235,
     246,
-    9,
+    9, // branches of 23
     20,
     34,
     63,
@@ -833,7 +833,7 @@ pub const MIDDLES: [u8; 1024] = [
     221,
     235,
     246,
-    15,
+    15, // branches of 24
     18,
     36,
     57,
@@ -849,7 +849,7 @@ pub const MIDDLES: [u8; 1024] = [
     219,
     237,
     240,
-    15,
+    15, // branches of 25
     18,
     36,
     57,
@@ -865,7 +865,7 @@ pub const MIDDLES: [u8; 1024] = [
     219,
     237,
     240,
-    15,
+    15, // branches of 26
     18,
     36,
     57,
@@ -881,7 +881,7 @@ pub const MIDDLES: [u8; 1024] = [
     219,
     237,
     240,
-    15,
+    15, // branches of 27
     18,
     36,
     57,
@@ -897,7 +897,7 @@ pub const MIDDLES: [u8; 1024] = [
     219,
     237,
     240,
-    15,
+    15, // branches of 28
     18,
     36,
     57,
@@ -913,7 +913,7 @@ pub const MIDDLES: [u8; 1024] = [
     219,
     237,
     240,
-    15,
+    15, // branches of 29
     18,
     36,
     57,
@@ -929,7 +929,7 @@ pub const MIDDLES: [u8; 1024] = [
     219,
     237,
     240,
-    15,
+    15, // branches of 30
     18,
     36,
     57,
@@ -945,7 +945,7 @@ pub const MIDDLES: [u8; 1024] = [
     219,
     237,
     240,
-    15,
+    15, // branches of 31
     18,
     36,
     57,
@@ -961,7 +961,7 @@ pub const MIDDLES: [u8; 1024] = [
     219,
     237,
     240,
-    5,
+    5, // branches of 32
     24,
     46,
     51,
@@ -977,7 +977,7 @@ pub const MIDDLES: [u8; 1024] = [
     209,
     231,
     250,
-    5,
+    5, // branches of 33
     24,
     46,
     51,
@@ -993,7 +993,7 @@ pub const MIDDLES: [u8; 1024] = [
     209,
     231,
     250,
-    5,
+    5, // branches of 34
     24,
     46,
     51,
@@ -1009,7 +1009,7 @@ pub const MIDDLES: [u8; 1024] = [
     209,
     231,
     250,
-    5,
+    5, // branches of 35
     24,
     46,
     51,
@@ -1025,7 +1025,7 @@ pub const MIDDLES: [u8; 1024] = [
     209,
     231,
     250,
-    5,
+    5, // branches of 36
     24,
     46,
     51,
@@ -1041,7 +1041,7 @@ pub const MIDDLES: [u8; 1024] = [
     209,
     231,
     250,
-    5,
+    5, // branches of 37
     24,
     46,
     51,
@@ -1057,7 +1057,7 @@ pub const MIDDLES: [u8; 1024] = [
     209,
     231,
     250,
-    5,
+    5, // branches of 38
     24,
     46,
     51,
@@ -1073,7 +1073,7 @@ pub const MIDDLES: [u8; 1024] = [
     209,
     231,
     250,
-    5,
+    5, // branches of 39
     24,
     46,
     51,
@@ -1089,7 +1089,7 @@ pub const MIDDLES: [u8; 1024] = [
     209,
     231,
     250,
-    3,
+    3, // branches of 40
     30,
     40,
     53,
@@ -1105,7 +1105,7 @@ pub const MIDDLES: [u8; 1024] = [
     215,
     225,
     252,
-    3,
+    3, // branches of 41
     30,
     40,
     53,
@@ -1121,7 +1121,7 @@ pub const MIDDLES: [u8; 1024] = [
     215,
     225,
     252,
-    3,
+    3, // branches of 42
     30,
     40,
     53,
@@ -1137,7 +1137,7 @@ pub const MIDDLES: [u8; 1024] = [
     215,
     225,
     252,
-    3,
+    3, // branches of 43
     30,
     40,
     53,
@@ -1153,7 +1153,7 @@ pub const MIDDLES: [u8; 1024] = [
     215,
     225,
     252,
-    3,
+    3, // branches of 44
     30,
     40,
     53,
@@ -1169,7 +1169,7 @@ pub const MIDDLES: [u8; 1024] = [
     215,
     225,
     252,
-    3,
+    3, // branches of 45
     30,
     40,
     53,
@@ -1185,7 +1185,7 @@ pub const MIDDLES: [u8; 1024] = [
     215,
     225,
     252,
-    3,
+    3, // branches of 46
     30,
     40,
     53,
@@ -1201,7 +1201,7 @@ pub const MIDDLES: [u8; 1024] = [
     215,
     225,
     252,
-    3,
+    3, // branches of 47
     30,
     40,
     53,
@@ -1217,7 +1217,7 @@ pub const MIDDLES: [u8; 1024] = [
     215,
     225,
     252,
-    12,
+    12, // branches of 48
     17,
     39,
     58,
@@ -1233,7 +1233,7 @@ pub const MIDDLES: [u8; 1024] = [
     216,
     238,
     243,
-    12,
+    12, // branches of 49
     17,
     39,
     58,
@@ -1249,7 +1249,7 @@ pub const MIDDLES: [u8; 1024] = [
     216,
     238,
     243,
-    12,
+    12, // branches of 50
     17,
     39,
     58,
@@ -1265,7 +1265,7 @@ pub const MIDDLES: [u8; 1024] = [
     216,
     238,
     243,
-    12,
+    12, // branches of 51
     17,
     39,
     58,
@@ -1281,7 +1281,7 @@ pub const MIDDLES: [u8; 1024] = [
     216,
     238,
     243,
-    12,
+    12, // branches of 52
     17,
     39,
     58,
@@ -1297,7 +1297,7 @@ pub const MIDDLES: [u8; 1024] = [
     216,
     238,
     243,
-    12,
+    12, // branches of 53
     17,
     39,
     58,
@@ -1313,7 +1313,7 @@ pub const MIDDLES: [u8; 1024] = [
     216,
     238,
     243,
-    12,
+    12, // branches of 54
     17,
     39,
     58,
@@ -1329,7 +1329,7 @@ pub const MIDDLES: [u8; 1024] = [
     216,
     238,
     243,
-    12,
+    12, // branches of 55
     17,
     39,
     58,
@@ -1345,7 +1345,7 @@ pub const MIDDLES: [u8; 1024] = [
     216,
     238,
     243,
-    10,
+    10, // branches of 56
     23,
     33,
     60,
@@ -1361,7 +1361,7 @@ pub const MIDDLES: [u8; 1024] = [
     222,
     232,
     245,
-    10,
+    10, // branches of 57
     23,
     33,
     60,
@@ -1377,7 +1377,7 @@ pub const MIDDLES: [u8; 1024] = [
     222,
     232,
     245,
-    10,
+    10, // branches of 58
     23,
     33,
     60,
@@ -1393,7 +1393,7 @@ pub const MIDDLES: [u8; 1024] = [
     222,
     232,
     245,
-    10,
+    10, // branches of 59
     23,
     33,
     60,
@@ -1409,7 +1409,7 @@ pub const MIDDLES: [u8; 1024] = [
     222,
     232,
     245,
-    10,
+    10, // branches of 60
     23,
     33,
     60,
@@ -1425,7 +1425,7 @@ pub const MIDDLES: [u8; 1024] = [
     222,
     232,
     245,
-    10,
+    10, // branches of 61
     23,
     33,
     60,
@@ -1441,7 +1441,7 @@ pub const MIDDLES: [u8; 1024] = [
     222,
     232,
     245,
-    10,
+    10, // branches of 62
     23,
     33,
     60,
@@ -1457,7 +1457,7 @@ pub const MIDDLES: [u8; 1024] = [
     222,
     232,
     245,
-    10,
+    10, // branches of 63
     23,
     33,
     60,
@@ -1477,7 +1477,7 @@ pub const MIDDLES: [u8; 1024] = [
 
 // The states at cut 16 that these branches lead to.
 pub const NEXTS: [u8; 1024] = [
-    0,
+    0, // next states of 0
     22,
     29,
     11,
@@ -1493,7 +1493,7 @@ pub const NEXTS: [u8; 1024] = [
     29,
     22,
     0,
-    22,
+    22, // next states of 1
     0,
     11,
     29,
@@ -1509,7 +1509,7 @@ pub const NEXTS: [u8; 1024] = [
     11,
     0,
     22,
-    29,
+    29, // next states of 2
     11,
     0,
     22,
@@ -1525,7 +1525,7 @@ pub const NEXTS: [u8; 1024] = [
     0,
     11,
     29,
-    11,
+    11, // next states of 3
     29,
     22,
     0,
@@ -1541,7 +1541,7 @@ pub const NEXTS: [u8; 1024] = [
     22,
     29,
     11,
-    58,
+    58, // next states of 4
     44,
     39,
     49,
@@ -1557,7 +1557,7 @@ pub const NEXTS: [u8; 1024] = [
     39,
     44,
     58,
-    44,
+    44, // next states of 5
     58,
     49,
     39,
@@ -1573,7 +1573,7 @@ pub const NEXTS: [u8; 1024] = [
     49,
     58,
     44,
-    39,
+    39, // next states of 6
     49,
     58,
     44,
@@ -1589,7 +1589,7 @@ pub const NEXTS: [u8; 1024] = [
     58,
     49,
     39,
-    49,
+    49, // next states of 7
     39,
     44,
     58,
@@ -1605,7 +1605,7 @@ pub const NEXTS: [u8; 1024] = [
     44,
     39,
     49,
-    1,
+    1, // next states of 8
     23,
     28,
     10,
@@ -1621,7 +1621,7 @@ pub const NEXTS: [u8; 1024] = [
     28,
     23,
     1,
-    23,
+    23, // next states of 9
     1,
     10,
     28,
@@ -1637,7 +1637,7 @@ pub const NEXTS: [u8; 1024] = [
     10,
     1,
     23,
-    28,
+    28, // next states of 10
     10,
     1,
     23,
@@ -1653,7 +1653,7 @@ pub const NEXTS: [u8; 1024] = [
     1,
     10,
     28,
-    10,
+    10, // next states of 11
     28,
     23,
     1,
@@ -1669,7 +1669,7 @@ pub const NEXTS: [u8; 1024] = [
     23,
     28,
     10,
-    59,
+    59, // next states of 12
     45,
     38,
     48,
@@ -1685,7 +1685,7 @@ pub const NEXTS: [u8; 1024] = [
     38,
     45,
     59,
-    45,
+    45, // next states of 13
     59,
     48,
     38,
@@ -1701,7 +1701,7 @@ pub const NEXTS: [u8; 1024] = [
     48,
     59,
     45,
-    38,
+    38, // next states of 14
     48,
     59,
     45,
@@ -1717,7 +1717,7 @@ pub const NEXTS: [u8; 1024] = [
     59,
     48,
     38,
-    48,
+    48, // next states of 15
     38,
     45,
     59,
@@ -1733,7 +1733,7 @@ pub const NEXTS: [u8; 1024] = [
     45,
     38,
     48,
-    2,
+    2, // next states of 16
     20,
     31,
     9,
@@ -1749,7 +1749,7 @@ pub const NEXTS: [u8; 1024] = [
     31,
     20,
     2,
-    20,
+    20, // next states of 17
     2,
     9,
     31,
@@ -1765,7 +1765,7 @@ pub const NEXTS: [u8; 1024] = [
     9,
     2,
     20,
-    31,
+    31, // next states of 18
     9,
     2,
     20,
@@ -1781,7 +1781,7 @@ pub const NEXTS: [u8; 1024] = [
     2,
     9,
     31,
-    9,
+    9, // next states of 19
     31,
     20,
     2,
@@ -1797,7 +1797,7 @@ pub const NEXTS: [u8; 1024] = [
     20,
     31,
     9,
-    56,
+    56, // next states of 20
     46,
     37,
     51,
@@ -1813,7 +1813,7 @@ pub const NEXTS: [u8; 1024] = [
     37,
     46,
     56,
-    46,
+    46, // next states of 21
     56,
     51,
     37,
@@ -1829,7 +1829,7 @@ pub const NEXTS: [u8; 1024] = [
     51,
     56,
     46,
-    37,
+    37, // next states of 22
     51,
     56,
     46,
@@ -1845,7 +1845,7 @@ pub const NEXTS: [u8; 1024] = [
     56,
     51,
     37,
-    51,
+    51, // next states of 23
     37,
     46,
     56,
@@ -1861,7 +1861,7 @@ pub const NEXTS: [u8; 1024] = [
     46,
     37,
     51,
-    3,
+    3, // next states of 24
     21,
     30,
     8,
@@ -1877,7 +1877,7 @@ pub const NEXTS: [u8; 1024] = [
     30,
     21,
     3,
-    21,
+    21, // next states of 25
     3,
     8,
     30,
@@ -1893,7 +1893,7 @@ pub const NEXTS: [u8; 1024] = [
     8,
     3,
     21,
-    30,
+    30, // next states of 26
     8,
     3,
     21,
@@ -1909,7 +1909,7 @@ pub const NEXTS: [u8; 1024] = [
     3,
     8,
     30,
-    8,
+    8, // next states of 27
     30,
     21,
     3,
@@ -1925,7 +1925,7 @@ pub const NEXTS: [u8; 1024] = [
     21,
     30,
     8,
-    57,
+    57, // next states of 28
     47,
     36,
     50,
@@ -1941,7 +1941,7 @@ pub const NEXTS: [u8; 1024] = [
     36,
     47,
     57,
-    47,
+    47, // next states of 29
     57,
     50,
     36,
@@ -1957,7 +1957,7 @@ pub const NEXTS: [u8; 1024] = [
     50,
     57,
     47,
-    36,
+    36, // next states of 30
     50,
     57,
     47,
@@ -1973,7 +1973,7 @@ pub const NEXTS: [u8; 1024] = [
     57,
     50,
     36,
-    50,
+    50, // next states of 31
     36,
     47,
     57,
@@ -1989,7 +1989,7 @@ pub const NEXTS: [u8; 1024] = [
     47,
     36,
     50,
-    4,
+    4, // next states of 32
     18,
     25,
     15,
@@ -2005,7 +2005,7 @@ pub const NEXTS: [u8; 1024] = [
     25,
     18,
     4,
-    18,
+    18, // next states of 33
     4,
     15,
     25,
@@ -2021,7 +2021,7 @@ pub const NEXTS: [u8; 1024] = [
     15,
     4,
     18,
-    25,
+    25, // next states of 34
     15,
     4,
     18,
@@ -2037,7 +2037,7 @@ pub const NEXTS: [u8; 1024] = [
     4,
     15,
     25,
-    15,
+    15, // next states of 35
     25,
     18,
     4,
@@ -2053,7 +2053,7 @@ pub const NEXTS: [u8; 1024] = [
     18,
     25,
     15,
-    62,
+    62, // next states of 36
     40,
     35,
     53,
@@ -2069,7 +2069,7 @@ pub const NEXTS: [u8; 1024] = [
     35,
     40,
     62,
-    40,
+    40, // next states of 37
     62,
     53,
     35,
@@ -2085,7 +2085,7 @@ pub const NEXTS: [u8; 1024] = [
     53,
     62,
     40,
-    35,
+    35, // next states of 38
     53,
     62,
     40,
@@ -2101,7 +2101,7 @@ pub const NEXTS: [u8; 1024] = [
     62,
     53,
     35,
-    53,
+    53, // next states of 39
     35,
     40,
     62,
@@ -2117,7 +2117,7 @@ pub const NEXTS: [u8; 1024] = [
     40,
     35,
     53,
-    5,
+    5, // next states of 40
     19,
     24,
     14,
@@ -2133,7 +2133,7 @@ pub const NEXTS: [u8; 1024] = [
     24,
     19,
     5,
-    19,
+    19, // next states of 41
     5,
     14,
     24,
@@ -2149,7 +2149,7 @@ pub const NEXTS: [u8; 1024] = [
     14,
     5,
     19,
-    24,
+    24, // next states of 42
     14,
     5,
     19,
@@ -2165,7 +2165,7 @@ pub const NEXTS: [u8; 1024] = [
     5,
     14,
     24,
-    14,
+    14, // next states of 43
     24,
     19,
     5,
@@ -2181,7 +2181,7 @@ pub const NEXTS: [u8; 1024] = [
     19,
     24,
     14,
-    63,
+    63, // next states of 44
     41,
     34,
     52,
@@ -2197,7 +2197,7 @@ pub const NEXTS: [u8; 1024] = [
     34,
     41,
     63,
-    41,
+    41, // next states of 45
     63,
     52,
     34,
@@ -2213,7 +2213,7 @@ pub const NEXTS: [u8; 1024] = [
     52,
     63,
     41,
-    34,
+    34, // next states of 46
     52,
     63,
     41,
@@ -2229,7 +2229,7 @@ pub const NEXTS: [u8; 1024] = [
     63,
     52,
     34,
-    52,
+    52, // next states of 47
     34,
     41,
     63,
@@ -2245,7 +2245,7 @@ pub const NEXTS: [u8; 1024] = [
     41,
     34,
     52,
-    6,
+    6, // next states of 48
     16,
     27,
     13,
@@ -2261,7 +2261,7 @@ pub const NEXTS: [u8; 1024] = [
     27,
     16,
     6,
-    16,
+    16, // next states of 49
     6,
     13,
     27,
@@ -2277,7 +2277,7 @@ pub const NEXTS: [u8; 1024] = [
     13,
     6,
     16,
-    27,
+    27, // next states of 50
     13,
     6,
     16,
@@ -2293,7 +2293,7 @@ pub const NEXTS: [u8; 1024] = [
     6,
     13,
     27,
-    13,
+    13, // next states of 51
     27,
     16,
     6,
@@ -2309,7 +2309,7 @@ pub const NEXTS: [u8; 1024] = [
     16,
     27,
     13,
-    60,
+    60, // next states of 52
     42,
     33,
     55,
@@ -2325,7 +2325,7 @@ pub const NEXTS: [u8; 1024] = [
     33,
     42,
     60,
-    42,
+    42, // next states of 53
     60,
     55,
     33,
@@ -2341,7 +2341,7 @@ pub const NEXTS: [u8; 1024] = [
     55,
     60,
     42,
-    33,
+    33, // next states of 54
     55,
     60,
     42,
@@ -2357,7 +2357,7 @@ pub const NEXTS: [u8; 1024] = [
     60,
     55,
     33,
-    55,
+    55, // next states of 55
     33,
     42,
     60,
@@ -2373,7 +2373,7 @@ pub const NEXTS: [u8; 1024] = [
     42,
     33,
     55,
-    7,
+    7, // next states of 56
     17,
     26,
     12,
@@ -2389,7 +2389,7 @@ pub const NEXTS: [u8; 1024] = [
     26,
     17,
     7,
-    17,
+    17, // next states of 57
     7,
     12,
     26,
@@ -2405,7 +2405,7 @@ pub const NEXTS: [u8; 1024] = [
     12,
     7,
     17,
-    26,
+    26, // next states of 58
     12,
     7,
     17,
@@ -2421,7 +2421,7 @@ pub const NEXTS: [u8; 1024] = [
     7,
     12,
     26,
-    12,
+    12, // next states of 59
     26,
     17,
     7,
@@ -2437,7 +2437,7 @@ pub const NEXTS: [u8; 1024] = [
     17,
     26,
     12,
-    61,
+    61, // next states of 60
     43,
     32,
     54,
@@ -2453,7 +2453,7 @@ pub const NEXTS: [u8; 1024] = [
     32,
     43,
     61,
-    43,
+    43, // next states of 61
     61,
     54,
     32,
@@ -2469,7 +2469,7 @@ pub const NEXTS: [u8; 1024] = [
     54,
     61,
     43,
-    32,
+    32, // next states of 62
     54,
     61,
     43,
@@ -2485,7 +2485,7 @@ pub const NEXTS: [u8; 1024] = [
     61,
     54,
     32,
-    54,
+    54, // next states of 63
     32,
     43,
     61,
@@ -2503,134 +2503,134 @@ pub const NEXTS: [u8; 1024] = [
     54,
 ];
 
-// Two suffix bytes for each state at cut 16.
+// The two suffix bytes of each state at cut 16.
 pub const SUFFIXES: [u8; 128] = [
-    0,
+    0, // suffixes of 0
     255,
-    3,
+    3, // suffixes of 1
     252,
-    5,
+    5, // suffixes of 2
     250,
-    6,
+    6, // suffixes of 3
     249,
-    9,
+    9, // suffixes of 4
     246,
-    10,
+    10, // suffixes of 5
     245,
-    12,
+    12, // suffixes of 6
     243,
-    15,
+    15, // suffixes of 7
     240,
-    17,
+    17, // suffixes of 8
     238,
-    18,
+    18, // suffixes of 9
     237,
-    20,
+    20, // suffixes of 10
     235,
-    23,
+    23, // suffixes of 11
     232,
-    24,
+    24, // suffixes of 12
     231,
-    27,
+    27, // suffixes of 13
     228,
-    29,
+    29, // suffixes of 14
     226,
-    30,
+    30, // suffixes of 15
     225,
-    33,
+    33, // suffixes of 16
     222,
-    34,
+    34, // suffixes of 17
     221,
-    36,
+    36, // suffixes of 18
     219,
-    39,
+    39, // suffixes of 19
     216,
-    40,
+    40, // suffixes of 20
     215,
-    43,
+    43, // suffixes of 21
     212,
-    45,
+    45, // suffixes of 22
     210,
-    46,
+    46, // suffixes of 23
     209,
-    48,
+    48, // suffixes of 24
     207,
-    51,
+    51, // suffixes of 25
     204,
-    53,
+    53, // suffixes of 26
     202,
-    54,
+    54, // suffixes of 27
     201,
-    57,
+    57, // suffixes of 28
     198,
-    58,
+    58, // suffixes of 29
     197,
-    60,
+    60, // suffixes of 30
     195,
-    63,
+    63, // suffixes of 31
     192,
-    65,
+    65, // suffixes of 32
     190,
-    66,
+    66, // suffixes of 33
     189,
-    68,
+    68, // suffixes of 34
     187,
-    71,
+    71, // suffixes of 35
     184,
-    72,
+    72, // suffixes of 36
     183,
-    75,
+    75, // suffixes of 37
     180,
-    77,
+    77, // suffixes of 38
     178,
-    78,
+    78, // suffixes of 39
     177,
-    80,
+    80, // suffixes of 40
     175,
-    83,
+    83, // suffixes of 41
     172,
-    85,
+    85, // suffixes of 42
     170,
-    86,
+    86, // suffixes of 43
     169,
-    89,
+    89, // suffixes of 44
     166,
-    90,
+    90, // suffixes of 45
     165,
-    92,
+    92, // suffixes of 46
     163,
-    95,
+    95, // suffixes of 47
     160,
-    96,
+    96, // suffixes of 48
     159,
-    99,
+    99, // suffixes of 49
     156,
-    101,
+    101, // suffixes of 50
     154,
-    102,
+    102, // suffixes of 51
     153,
-    105,
+    105, // suffixes of 52
     150,
-    106,
+    106, // suffixes of 53
     149,
-    108,
+    108, // suffixes of 54
     147,
-    111,
+    111, // suffixes of 55
     144,
-    113,
+    113, // suffixes of 56
     142,
-    114,
+    114, // suffixes of 57
     141,
-    116,
+    116, // suffixes of 58
     139,
-    119,
+    119, // suffixes of 59
     136,
-    120,
+    120, // suffixes of 60
     135,
-    123,
+    123, // suffixes of 61
     132,
-    125,
+    125, // suffixes of 62
     130,
-    126,
+    126, // suffixes of 63
     129,
 ];
