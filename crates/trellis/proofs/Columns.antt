@@ -1,6 +1,6 @@
 -- `wordOf` one column at a time, from the last column down. Assumes nothing.
 use mathlib.Core.Path.{_≡_, ap, _∙_}
-use mathlib.Core.List.{List, [], _∷_}
+use mathlib.Core.List.{List}
 use Prim.Native.Nat.{ℕ, _+_, _*_, _/_, _%_, _^_, _<_}
 use native.Mathlib.Nat.{mul-one, mul-zero, le-refl}
 use native.Mathlib.Omega.{arith}

@@ -2,7 +2,7 @@
 use mathlib.Core.Path.{_≡_, _∙_, sym, ap, refl}
 use mathlib.Core.Bool.{Bool}
 use mathlib.Core.List.{List, [], _∷_}
-use Prim.Native.Nat.{ℕ, zero, suc, _+_, _/_, _%_, _<_, _≤_}
+use Prim.Native.Nat.{ℕ, zero, suc, _/_, _%_, _<_, _≤_}
 use native.Mathlib.Nat.{mod-eq-of-lt}
 use native.Mathlib.Omega.{arith}
 use lib.Dec.{T, eqb, eqb→eq}
@@ -19,9 +19,7 @@ use Rattle.trellis.specs.Back.{prefixes-distinct, passage-by, passage-if
 use Rattle.trellis.specs.declared.Edge.{Edge}
 use Rattle.trellis.specs.declared.Opening.{Opening}
 use Rattle.trellis.specs.declared.Opening.the-variants.{From, NoState}
-use Rattle.trellis.specs.declared.Passage.{Passage}
 use Rattle.trellis.specs.declared.Passage.the-variants.{Along, NoBranch}
-use Rattle.trellis.specs.declared.Closing.{Closing}
 use Rattle.trellis.specs.declared.Closing.the-variants.{By, NoSuffix}
 
 -- ---- a prefix byte: the place of each byte among the prefixes, 255 where it stands nowhere

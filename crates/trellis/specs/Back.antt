@@ -1,22 +1,20 @@
 -- The way back: a prefix byte names its state and bit, a middle byte out of a state its branch, a suffix byte into a state its bit, a codeword
 -- its label; and each answers none exactly where there is none. Assumes nothing.
-use mathlib.Core.Path.{_≡_, _∙_, subst, sym, refl, ap, ap₂}
+use mathlib.Core.Path.{_≡_, _∙_, sym, refl, ap, ap₂}
 use mathlib.Core.Logic.{_↔_}
-use mathlib.Core.Bool.{Bool, true, false}
 use mathlib.Core.List.{List, [], _∷_}
-use Prim.Native.Nat.{ℕ, zero, suc, _+_, _*_, _/_, _%_, _^_, _<_, _≤_}
-use native.Mathlib.Nat.{min-le-left, min-le-right, not-suc-le-zero}
+use Prim.Native.Nat.{ℕ, _+_, _*_, _/_, _%_, _<_, _≤_}
+use native.Mathlib.Nat.{min-le-left, min-le-right}
 use native.Mathlib.Omega.{arith}
-use borrow.Author.Tests.{ltb-true, ltb-false}
-use lib.Dec.{T, eqb, ltb}
+use lib.Dec.{T, eqb}
 use lib.Pow.{mod-pow-add}
 use lib.ListN.{length, getD, drop, length-take, length-drop}
-use Rattle.laws.specs.Lists.{tab, tab-length, tab-at, seek, seek-le, seek-holds, seek-is, seek-none, seek-first, Distinct, look-at, look-none, look-out, look-missing, look-map, lookUp}
+use Rattle.laws.specs.Lists.{tab-length, tab-at, seek, seek-le, seek-holds, seek-is, seek-none, Distinct, look-at, look-none, look-out, look-missing, look-map, lookUp}
 use Rattle.laws.specs.Tables.{every, found-distinct, up-distinct}
 use Rattle.trellis.specs.Code.{wordOf, columns, codewords, label, first, second, third}
-use Rattle.trellis.specs.Tables.{prefixes, middles, nexts, suffixes}
+use Rattle.trellis.specs.Tables.{prefixes, middles, suffixes}
 use Rattle.trellis.specs.Trellis.{row, prefixOf, middleOf, nextOf, suffixOf, path, s8Of, b1Of, b2Of, b3Of, s16Of, openingOf, passageOf, closingOf, openingSays, passageSays, closingSays, labelOf}
-use Rattle.trellis.specs.Path.{row-at, row-length, row-none, path-at, first-at, second-at, third-at, middle-up, prefixes-length, middles-length, suffixes-length, suffix-pair, next-lt}
+use Rattle.trellis.specs.Path.{row-at, row-length, path-at, first-at, second-at, third-at, middle-up, prefixes-length, middles-length, suffixes-length, suffix-pair, next-lt}
 use Rattle.trellis.specs.CodeLaws.{distinct}
 use Rattle.trellis.specs.declared.Opening.{Opening}
 use Rattle.trellis.specs.declared.Opening.the-variants.{From, NoState}
@@ -114,6 +112,11 @@ middles-distinct s =
     (λ i j h k.
     let q = row-in 16 middles s j k in
     middle-up s (omega (arith, q .1, middles-length)) i j h (q .0))
+
+pub middle-distinct : (s8 : ℕ) → s8 < 64 → (a b : ℕ) → a < 16 → b < 16 → middleOf s8 a ≡ middleOf s8 b → a ≡ b
+unfolding middleOf
+middle-distinct s h a b ha hb e =
+    middles-distinct s a b (in-row 16 middles s a ha (omega (arith, middles-length))) (in-row 16 middles s b hb (omega (arith, middles-length))) e
 
 abbrev passAt : ℕ → ℕ → List ℕ
 passAt s b = b ∷ nextOf s b ∷ []

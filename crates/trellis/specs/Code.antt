@@ -1,6 +1,6 @@
 -- The Golay code in trio order, from its twelve columns. Bit j of a codeword belongs to the coordinate at place j of trio order; the three
 -- bytes of a codeword, lowest first, are its three sections. Assumes nothing.
-use mathlib.Core.Bool.{Bool, true, false}
+use mathlib.Core.Bool.{true, false}
 use mathlib.Core.List.{List, [], _∷_}
 use Prim.Native.Nat.{ℕ, zero, suc, _+_, _*_, _/_, _%_}
 use lib.Dec.{eqb}

@@ -18,11 +18,12 @@ pub data Sum : ℕ → ℕ → Type 0 where
 abbrev pub Share : ℕ → ℕ → ℕ → Type 0
 Share cut v w = Sum cut (bitXor v w)
 
--- the states at the cut are numbered by the ascending order of their smallest codewords: `state x` is the number of the state of the
--- codeword with the label x, and `least s` the label of the smallest codeword of state s
+-- the states at the cut are numbered by the ascending order of their smallest codewords; `state x` is the number at the label x
 pub record Numbered (cut : ℕ) (state : ℕ → ℕ) : Type 0 where
+  -- numbers 0 to 63, the same where a state is shared and nowhere else
   pub state-lt : (x : ℕ) → state x < 64
   pub shared : (x y : ℕ) → (state x ≡ state y) ↔ Share cut (wordOf columns x) (wordOf columns y)
+  -- the label of the smallest codeword of each state: it is one of the state's, none of them is smaller, and they ascend
   pub least : ℕ → ℕ
   pub own : (s : ℕ) → s < 64 → state (least s) ≡ s
   pub smallest : (x : ℕ) → wordOf columns (least (state x)) ≤ wordOf columns x

@@ -9,5 +9,6 @@ pub mod CodeLaws
 pub mod Path
 pub mod States
 pub mod Back
+pub mod StateBytes
 pub mod TrioLaws
 pub mod Numbering

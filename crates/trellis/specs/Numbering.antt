@@ -1,7 +1,7 @@
 -- A cut has one numbering only: two that are by the ascending order of the states' smallest codewords give every codeword the same number.
 -- Assumes nothing.
 use mathlib.Core.Path.{_≡_, _∙_, subst, sym, ap}
-use Prim.Native.Nat.{ℕ, zero, suc, _+_, _<_, _≤_}
+use Prim.Native.Nat.{ℕ, zero, suc, _<_, _≤_}
 use native.Mathlib.Omega.{arith}
 use Rattle.trellis.specs.Code.{wordOf, columns}
 use Rattle.trellis.specs.Cuts.{Numbered}

@@ -1,15 +1,15 @@
 -- The states of the trellis are those of the cuts, and their numbers are the ranks of their smallest codewords. Assumes nothing.
 use mathlib.Core.Path.{_≡_, _∙_, subst, sym, refl, ap, ap₂}
-use mathlib.Core.Logic.{_⊎_, inl, inr, ⊎-elim, _↔_}
-use mathlib.Core.Bool.{Bool, true, false, _&&_, _||_}
+use mathlib.Core.Logic.{inl, inr, ⊎-elim, _↔_}
+use mathlib.Core.Bool.{Bool, _&&_, _||_}
 use mathlib.Core.List.{List, [], _∷_, map}
-use Prim.Native.Nat.{ℕ, zero, suc, _+_, _*_, _/_, _%_, _^_, _<_, _≤_}
-use native.Mathlib.Nat.{mod-lt, zero-lt-suc, mul-one, mod-mod, mod-eq-of-lt, le-of-suc-le-suc}
+use Prim.Native.Nat.{ℕ, suc, _+_, _*_, _/_, _%_, _^_, _<_, _≤_}
+use native.Mathlib.Nat.{mod-lt, zero-lt-suc, mul-one, mod-eq-of-lt, le-of-suc-le-suc}
 use native.Mathlib.Omega.{arith}
 use lib.Dec.{T, eqb, leb, ltb, eqb→eq, leb→le, ltb→lt, lt→ltb}
 use lib.ListN.{length, getD, length-map}
 use lib.Pow.{pow-pos, split}
-use lib.Bits.{bitXor, xor-comm, xor-self, xor-zero-r, xor-shifted, xor-mod}
+use lib.Bits.{bitXor, xor-comm, xor-self, xor-zero-r, xor-shifted}
 use Rattle.laws.specs.Tests.{and-left, and-right, split3, implies, modus, eq→eqb, or-left, or-right}
 use Rattle.laws.specs.Tables.{every, at, ascBy, asc-lt}
 use Rattle.laws.specs.Trees.{Tree, build, get, get-build}

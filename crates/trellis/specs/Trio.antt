@@ -1,5 +1,5 @@
 -- Trio order: the set bits of each octad ascending, in the order of the octads. Assumes nothing.
-use mathlib.Core.Bool.{Bool, true, false}
+use mathlib.Core.Bool.{true, false}
 use mathlib.Core.List.{List, [], _∷_, _++_}
 use Prim.Native.Nat.{ℕ, zero, suc, _/_, _%_}
 use lib.Dec.{eqb}
@@ -15,7 +15,7 @@ octad2 = 0x0f6840
 abbrev pub octad3 : ℕ
 octad3 = 0xf08320
 
--- the set bits of w, ascending, n of them looked at, the first of which is bit i
+-- the places of the set bits among the n low bits of w, ascending, where the lowest bit stands at place i
 abbrev pub setBits : ℕ → ℕ → ℕ → List ℕ
 setBits zero i w = []
 setBits (suc n) i w = elim (eqb (w % 2) 1) [ true ↦ i ∷ setBits n (suc i) (w / 2) | false ↦ setBits n (suc i) (w / 2) ]

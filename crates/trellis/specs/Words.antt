@@ -2,14 +2,14 @@
 use mathlib.Core.Path.{_≡_, _∙_, subst, sym, refl, ap, ap₂}
 use mathlib.Core.Bool.{Bool}
 use mathlib.Core.List.{List, [], _∷_}
-use Prim.Native.Nat.{ℕ, zero, suc, _+_, _*_, _/_, _%_, _^_, _<_, _≤_}
+use Prim.Native.Nat.{ℕ, zero, suc, _*_, _/_, _%_, _^_, _<_}
 use native.Mathlib.Nat.{mul-zero, mul-one, pow-suc}
 use native.Mathlib.Omega.{arith}
 use lib.Dec.{T}
 use lib.ListN.{length, getD}
 use lib.Bits.{bitXor}
-use Rattle.laws.specs.Tables.{every, at, every2, at2}
-use Rattle.laws.specs.Lists.{tab, filled}
+use Rattle.laws.specs.Tables.{every, at}
+use Rattle.laws.specs.Lists.{filled}
 use Rattle.trellis.specs.Code.{wordOf, columns, codewords}
 
 -- each word, and after it the word with c

@@ -148,10 +148,9 @@ pub fn branch(s8: usize, b2: usize) -> Edge
         return Edge { byte: 0, s16: 0 };
     }
     let i = 16 * s8 + b2;
-    Edge {
-        byte: table::MIDDLES[i],
-        s16: table::NEXTS[i],
-    }
+    let byte = table::MIDDLES[i];
+    let s16 = table::NEXTS[i];
+    Edge { byte, s16 }
 }
 
 // The suffix byte of state `s16` and bit `b3`; 0 where there is none.
@@ -167,7 +166,7 @@ pub fn suffix(s16: usize, b3: usize) -> u8
     table::SUFFIXES[2 * s16 + b3]
 }
 
-// ---- the ways back
+// ---- the ways back, as enums where the Rust has an Option
 // The state at cut 8 and the bit b1 of a prefix byte, or that it is no prefix byte.
 pub enum Opening {
     From(u8, u8),
@@ -186,6 +185,7 @@ pub enum Closing {
     NoSuffix,
 }
 
+// The state and the bit of the prefix byte `c1`.
 pub fn state_of_prefix(c1: u8) -> Opening
     ensures { λ r. ⌜ r ≡ openingOf c1 ⌝ }
 {
@@ -196,7 +196,8 @@ pub fn state_of_prefix(c1: u8) -> Opening
     Opening::From(i / 2, i % 2)
 }
 
-// The middle bytes of a state ascend, and the high half of each is its place.
+// The branch of the middle byte `c2` out of state `s8`; none out of a state past 63. The middle bytes of a state ascend, and the high half of
+// each is its place.
 pub fn branch_of(s8: u8, c2: u8) -> Passage
     ensures { λ r. ⌜ r ≡ passageOf s8 c2 ⌝ }
 {
@@ -211,6 +212,7 @@ pub fn branch_of(s8: u8, c2: u8) -> Passage
     Passage::NoBranch
 }
 
+// The bit of the suffix byte `c3` into state `s16`; none into a state past 63.
 pub fn suffix_of(s16: u8, c3: u8) -> Closing
     ensures { λ r. ⌜ r ≡ closingOf s16 c3 ⌝ }
 {

@@ -1,7 +1,6 @@
 -- The branch is read from the tables of middle bytes and of next states; past them it is zeros.
 use borrow.Author.Needs.{needs}
 use native.Mathlib.Omega.{arith}
-use mathlib.Core.Path.{sym}
 use Rattle.trellis.specs.Tables.{middles, nexts}
 use Rattle.trellis.specs.Trellis.{middleOf, nextOf}
 use Rattle.trellis.specs.Path.{row-at, row-beyond, row-past, middles-length, nexts-length}
@@ -28,11 +27,11 @@ mul-i c = search needs
 add-i : tie.Need-add-i
 add-i c = search needs
 
-array-read-t9 : tie.Need-array-read-t9
-array-read-t9 c = search needs
+array-read-byte : tie.Need-array-read-byte
+array-read-byte c = search needs
 
-array-read-t13 : tie.Need-array-read-t13
-array-read-t13 c = search needs
+array-read-s16 : tie.Need-array-read-s16
+array-read-s16 c = search needs
 
 returns-3 : tie.Need-returns-3
 unfolding middleOf nextOf middles nexts
@@ -43,4 +42,4 @@ returns-3 c =
 
 pub branch-spec : {M : Type 1} → statement M
 branch-spec =
-    tie.close (tie.spec returns returns-2 mul-i add-i array-read-t9 array-read-t13 returns-3)
+    tie.close (tie.spec returns returns-2 mul-i add-i array-read-byte array-read-s16 returns-3)

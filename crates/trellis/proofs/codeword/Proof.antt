@@ -1,6 +1,5 @@
 -- The columns of the code are those of the definition.
 use borrow.Author.Needs.{needs}
-use native.Mathlib.Omega.{arith}
 use Rattle.trellis.specs.Code.{columns}
 use Rattle.trellis.proofs.codeword.Statement.{statement}
 use Rattle.trellis.proofs.codeword.Tie as tie

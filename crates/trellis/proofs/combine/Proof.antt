@@ -1,13 +1,13 @@
 -- From the last column down: the answer so far is the word of the columns from `j` on, at the bits of `x` from `j` on.
 use borrow.Author.Needs.{needs}
-use mathlib.Core.Path.{_≡_, refl, sym, ap, subst, _∙_}
-use Prim.Native.Nat.{ℕ, zero, suc, _+_, _*_, _/_, _%_, _^_, _-_, _≤_, _<_}
+use mathlib.Core.Path.{_≡_, sym, ap, subst, _∙_}
+use Prim.Native.Nat.{ℕ, _+_, _/_, _%_, _^_, _-_, _≤_}
 use native.Mathlib.Omega.{arith}
 use native.Mathlib.Nat.{div-one}
 use lib.Bits.{and-mask, xor-comm}
 use Rattle.trellis.specs.Code.{wordOf}
 use Rattle.trellis.proofs.Columns.{word-one, word-none, word-end}
-use lib.ListN.{length, getD, drop, set, length-set}
+use lib.ListN.{length, getD, drop}
 use Rattle.trellis.proofs.combine.Statement.{statement}
 use Rattle.trellis.proofs.combine.Tie as tie
 

@@ -1,6 +1,4 @@
 -- Fields that do not overlap, laid side by side.
-use borrow.Author.Needs.{needs}
-use native.Mathlib.Omega.{arith}
 use Rattle.trellis.proofs.Label.{packed}
 use Rattle.trellis.proofs.linear_input.Statement.{statement}
 use Rattle.trellis.proofs.linear_input.Tie as tie
