@@ -18,12 +18,14 @@ branch-requires c κs = search needs
 returns-2 : tie.Need-returns-2
 returns-2 c =
     let a = c .before .before .before .before .args in
-    pass-found (a .s8) (a .c2) (a .c2 / 16) (c .before .before .branch .result) (c .before .before .branch .ensures) (omega arith) (omega arith) (c .if2 .taken)
+    let b = c .before .before .branch in
+    pass-found (a .s8) (a .c2) (a .c2 / 16) (b .result) (b .ensures) (omega arith) (omega arith) (c .if2 .taken)
 
 returns-3 : tie.Need-returns-3
 returns-3 c =
     let a = c .before .before .before .before .args in
-    pass-none (a .s8) (a .c2) (c .before .before .branch .result) (c .before .before .branch .ensures) (omega arith) (c .if2 .left)
+    let b = c .before .before .branch in
+    pass-none (a .s8) (a .c2) (b .result) (b .ensures) (omega arith) (c .if2 .left)
 
 pub branch-of-spec : {M : Type 1} → statement M
 branch-of-spec = tie.close (tie.spec returns cast-branch branch-requires returns-2 returns-3)

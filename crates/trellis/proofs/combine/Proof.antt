@@ -1,13 +1,12 @@
 -- From the last column down: the answer so far is the word of the columns from `j` on, at the bits of `x` from `j` on.
 use borrow.Author.Needs.{needs}
-use mathlib.Core.Path.{_≡_, sym, ap, subst, _∙_}
-use Prim.Native.Nat.{ℕ, _+_, _/_, _%_, _^_, _-_, _≤_}
+use mathlib.Core.Path.{_≡_, ap, subst, _∙_}
+use Prim.Native.Nat.{ℕ, _/_, _^_, _≤_}
 use native.Mathlib.Omega.{arith}
 use native.Mathlib.Nat.{div-one}
-use lib.Bits.{and-mask, xor-comm}
 use Rattle.trellis.specs.Code.{wordOf}
-use Rattle.trellis.proofs.Columns.{word-one, word-none, word-end}
-use lib.ListN.{length, getD, drop}
+use Rattle.trellis.proofs.Columns.{word-set, word-clear, word-end}
+use lib.ListN.{length, drop}
 use Rattle.trellis.proofs.combine.Statement.{statement}
 use Rattle.trellis.proofs.combine.Tie as tie
 
@@ -18,7 +17,7 @@ abbrev μ-loop : tie.MeasureT-loop
 μ-loop cs x acc₀ j₀ acc j = j
 
 loop-holds : tie.Need-loop-holds Inv-loop μ-loop
-loop-holds c = (omega arith, sym (word-end (c .args .cs .now) (c .args .x)))
+loop-holds c = (omega arith, word-end (c .args .cs .now) (c .args .x))
 
 sub-j : tie.Need-sub-j Inv-loop μ-loop
 sub-j c = search needs
@@ -42,11 +41,7 @@ loop-again : tie.Need-loop-again Inv-loop μ-loop
 loop-again c =
     let l = c .before .before .before .loop in
     let a = c .before .before .before .before .args in
-    let i = l .j - 1 in
-    let e : l .j ≡ i + 1 = omega arith in
-    let inv : l .acc ≡ wordOf (drop (i + 1) (a .cs .now)) (a .x / 2 ^ (i + 1)) = subst (λ (n : ℕ). l .acc ≡ wordOf (drop n (a .cs .now)) (a .x / 2 ^ n)) e (l .inv .1) in
-    let bit : a .x / 2 ^ i % 2 ≡ 1 = sym (and-mask (a .x / 2 ^ i) 1) ∙ c .before .if1 .taken in
-    (omega arith, sym (word-one (a .cs .now) (a .x) i (omega arith) bit ∙ rw (← inv) (xor-comm (getD (a .cs .now) i 0) (l .acc))))
+    (omega arith, word-set (a .cs .now) (a .x) (l .j) (l .acc) (omega arith) (omega arith) (l .inv .1) (c .before .if1 .taken))
 
 loop-less-2 : tie.Need-loop-less-2 Inv-loop μ-loop
 loop-less-2 c = search needs
@@ -55,10 +50,7 @@ loop-again-2 : tie.Need-loop-again-2 Inv-loop μ-loop
 loop-again-2 c =
     let l = c .before .before .loop in
     let a = c .before .before .before .args in
-    let i = l .j - 1 in
-    let e : l .j ≡ i + 1 = omega arith in
-    let inv : l .acc ≡ wordOf (drop (i + 1) (a .cs .now)) (a .x / 2 ^ (i + 1)) = subst (λ (n : ℕ). l .acc ≡ wordOf (drop n (a .cs .now)) (a .x / 2 ^ n)) e (l .inv .1) in
-    (omega arith, inv ∙ sym (word-none (a .cs .now) (a .x) i (omega arith) (λ q. c .if1 .left (and-mask (a .x / 2 ^ i) 1 ∙ q))))
+    (omega arith, word-clear (a .cs .now) (a .x) (l .j) (l .acc) (omega arith) (omega arith) (l .inv .1) (c .if1 .left))
 
 returns : tie.Need-returns Inv-loop μ-loop
 returns c =

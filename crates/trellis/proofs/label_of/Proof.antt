@@ -17,12 +17,16 @@ codeword-requires c κs = search needs
 returns : tie.Need-returns
 unfolding backColumns
 returns c =
-    label-found (c .before .before .before .before .args .c) (c .before .before .combine .result) (c .before .codeword .result) (c .before .before .combine .ensures) (c .before .codeword .ensures) (c .if1 .taken)
+    let f = c .before .before .combine in
+    let g = c .before .codeword in
+    label-found (c .before .before .before .before .args .c) (f .result) (g .result) (f .ensures) (g .ensures) (c .if1 .taken)
 
 returns-2 : tie.Need-returns-2
 unfolding backColumns
 returns-2 c =
-    label-lost (c .before .before .before .before .args .c) (c .before .before .combine .result) (c .before .codeword .result) (c .before .before .combine .ensures) (c .before .codeword .ensures) (c .if1 .left)
+    let f = c .before .before .combine in
+    let g = c .before .codeword in
+    label-lost (c .before .before .before .before .args .c) (f .result) (g .result) (f .ensures) (g .ensures) (c .if1 .left)
 
 pub label-of-spec : {M : Type 1} → statement M
 label-of-spec =
