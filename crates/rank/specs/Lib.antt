@@ -1,2 +1,7 @@
 pub mod Coord
 pub mod Vector
+pub mod Section
+pub mod Answers
+pub mod RankOrder
+pub mod CoordLaws
+pub mod SectionLaws
