@@ -1,7 +1,7 @@
 -- What this crate's functions answer, for every input: number 0 where a call is accepted, document 01's number 7 where it is refused.
 -- Assumes nothing.
 use mathlib.Core.Bool.{Bool, cond, _&&_}
-use mathlib.Core.List.{List}
+use mathlib.Core.List.{List, map}
 use mathlib.Core.Option.{Option, none, some}
 use Prim.Native.Nat.{ℕ}
 use lib.Dec.{ltb, eqb}
@@ -46,3 +46,7 @@ noRank = 15
 
 unfoldable pub markOf : ℤ → ℕ
 markOf y = cond (ltb (rankOf y) reach) (rankOf y) noRank
+
+-- the marks of a row
+abbrev pub marksOf : List ℤ → List ℕ
+marksOf t = map markOf t

@@ -4,4 +4,6 @@ pub mod Section
 pub mod Answers
 pub mod RankOrder
 pub mod CoordLaws
+pub mod VectorLaws
 pub mod SectionLaws
+pub mod LookupLaws

@@ -7,7 +7,7 @@ use native.Mathlib.Nat.{mul-zero, mul-add}
 use native.Mathlib.Numerals.{add-one}
 use native.Mathlib.Omega.{arith}
 use lib.Pow.{mod-pow-add}
-use lib.Dec.{T, ltb, eqb, eqb→eq, ltb→lt}
+use lib.Dec.{T, eqb, eqb→eq}
 use lib.IntN.{ℤ, pos, negsuc, _+ℤ_}
 use lib.ListN.{length}
 use Rattle.laws.specs.Tests.{and-left, and-right, and-in, eq→eqb}
@@ -16,16 +16,8 @@ use Rattle.laws.specs.Bits.{weight}
 use Rattle.rank.specs.Coord.{parityOf, bitOf, kOf, rankOf, valOf}
 use Rattle.rank.specs.CoordLaws.{Member, member, val-rank, k-parity, residue, bit-lt}
 use Rattle.rank.specs.Vector.{ranksBelow, kZero, class}
+use Rattle.rank.specs.VectorLaws.{rank-first, rank-rest}
 use Rattle.rank.specs.Section.{pointAt, uniform, bitsOf, ranksOf, kSum}
-
--- of ranks below b the first is below b, and so are the rest
-pub rank-first : (b r : ℕ) (v : List ℕ) → T (ranksBelow b (r ∷ v)) → r < b
-unfolding ranksBelow
-rank-first b r v t = ltb→lt r b (and-left (ltb r b) (ranksBelow b v) t)
-
-pub rank-rest : (b r : ℕ) (v : List ℕ) → T (ranksBelow b (r ∷ v)) → T (ranksBelow b v)
-unfolding ranksBelow
-rank-rest b r v t = and-right (ltb r b) (ranksBelow b v) t
 
 -- of coordinates of parity p the first has parity p, and so have the rest
 uniform-first : (p : ℕ) (y : ℤ) (t : List ℤ) → T (uniform p (y ∷ t)) → parityOf y ≡ p

@@ -90,8 +90,9 @@ pub fn bit(y: i32) -> u32
 pub fn mark(y: i32) -> u32
     ensures { λ r. ⌜ (r ≡ markOf y) × (r < 16) ⌝ }
 {
-    let Ranked::Rank(rho) = rank_of(residue(y), y) else {
-        return NO_RANK;
-    };
-    rho
+    match rank_of(residue(y), y) {
+        Ranked::Rank(rho) => rho,
+        Ranked::Nothing => NO_RANK,
+        Ranked::Refused => NO_RANK,
+    }
 }
