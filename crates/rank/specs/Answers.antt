@@ -1,16 +1,20 @@
 -- What this crate's functions answer, for every input: number 0 where a call is accepted, document 01's number 7 where it is refused.
 -- Assumes nothing.
-use mathlib.Core.Bool.{Bool, cond, _&&_}
+use mathlib.Core.Bool.{Bool, false, cond, _&&_}
 use mathlib.Core.List.{List, map}
 use mathlib.Core.Option.{Option, none, some}
-use Prim.Native.Nat.{ℕ}
+use Prim.Native.Nat.{ℕ, _%_}
 use lib.Dec.{ltb, eqb}
 use lib.IntN.{ℤ, pos}
 use Rattle.laws.specs.Whole.{modZ}
 use Rattle.rank.specs.Coord.{rankOf, valOf}
+use Rattle.rank.specs.Vector.{ranksBelow, class, cost, pack, within}
 use Rattle.rank.specs.declared.Valued.{Valued}
 use Rattle.rank.specs.declared.Ranked.{Ranked}
 use Rattle.rank.specs.declared.Ranked.the-variants.{Rank, Nothing, Refused}
+use Rattle.rank.specs.declared.Classed.{Classed}
+use Rattle.rank.specs.declared.Costed.{Costed}
+use Rattle.rank.specs.declared.Held.{Held}
 
 -- the number of a residue or a rank out of range
 abbrev pub outOfRange : ℕ
@@ -50,3 +54,19 @@ markOf y = cond (ltb (rankOf y) reach) (rankOf y) noRank
 -- the marks of a row
 abbrev pub marksOf : List ℤ → List ℕ
 marksOf t = map markOf t
+
+-- ---- rank_class: refused where a rank is above 7
+unfoldable pub classedOf : List ℕ → Classed
+classedOf v = cond (ranksBelow 8 v) (record { number = 0; class = class v }) (record { number = outOfRange; class = 0 })
+
+-- ---- cost: refused where a rank is above 15
+unfoldable pub costedOf : List ℕ → Costed
+costedOf v = cond (ranksBelow 16 v) (record { number = 0; cost = cost v }) (record { number = outOfRange; cost = 0 })
+
+-- ---- contains, of the bound of cost C and this cut: refused where a rank is above 15
+unfoldable pub heldOf : ℕ → List ℕ → List ℕ → Held
+heldOf C cut v = cond (ranksBelow 16 v) (record { number = 0; held = within C cut v }) (record { number = outOfRange; held = false })
+
+-- ---- pack: the low four bits of each rank
+unfoldable pub packedOf : List ℕ → ℕ
+packedOf v = pack (map (λ (r : ℕ). r % 16) v)
