@@ -97,12 +97,15 @@ pick3-says a b p P s = says-by (pick3 (compare a b) p) ((a < b) ⊎ ((a ≡ b) �
     so : (p : Bool) → Says p P → T p → P
     so true s t = s
     so false s t = absurd t
+
     nor : (p : Bool) → Says p P → p ≡ false → P → ⊥
     nor true s e x = subst T e tt
     nor false s e x = s x
+
     out : (a < b) ⊎ ((a ≡ b) × T p) → (a < b) ⊎ ((a ≡ b) × P)
     out (inl h) = inl h
     out (inr h) = inr (h .0, so p s (h .1))
+
     back : pick3 (compare a b) p ≡ false → (a < b) ⊎ ((a ≡ b) × P) → ⊥
     back e (inl h) = subst T e (pick3-lt a b p h)
     back e (inr h) = nor p s (sym (pick3-same a b p (h .0)) ∙ e) (h .1)

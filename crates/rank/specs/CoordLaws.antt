@@ -51,8 +51,8 @@ pub member : (o r : ℕ) → o < 4 → r < 8 → Member o r
 unfolding good
 member o r ho hr =
     let t =
-        split4 (eqb (parityOf (valOf o r)) (o % 2)) (eqb (bitOf (valOf o r)) (o / 2)) (eqb (rankOf (valOf o r)) r)
-        (eqb (modZ (kOf (valOf o r)) 2) (((r + 1) / 2 + o % 2 * (o / 2)) % 2)) (below2 4 8 good all-good o r ho hr) in
+    split4 (eqb (parityOf (valOf o r)) (o % 2)) (eqb (bitOf (valOf o r)) (o / 2)) (eqb (rankOf (valOf o r)) r)
+    (eqb (modZ (kOf (valOf o r)) 2) (((r + 1) / 2 + o % 2 * (o / 2)) % 2)) (below2 4 8 good all-good o r ho hr) in
     record { parity = eqb→eq _ _ (t .0); bit = eqb→eq _ _ (t .1); rank = eqb→eq _ _ (t .2); k = eqb→eq _ _ (t .3) }
 
 -- it leaves o

@@ -71,7 +71,7 @@ unfolding valuedOf
 val-of-rank o y r e =
     let h = ranked-says o y r e in
     let v : valOf o r ≡ y =
-        ap₂ valOf (sym (h .1)) (sym (h .2)) ∙ val-rank y (omega (arith, h .2, h .3)) in
+    ap₂ valOf (sym (h .1)) (sym (h .2)) ∙ val-rank y (omega (arith, h .2, h .3)) in
     rw (lt-ltb o 4 (h .0), lt-ltb r 8 (omega (arith, h .3)), v)
 
 -- ---- marks

@@ -89,6 +89,7 @@ count-is o h (suc n) =
   where
     whole : (m : ℕ) → m / 8 + (m % 8 + 1) / 8 ≡ suc m / 8
     whole m = omega arith
+
     carry : (x b c q s : ℕ) → x + b ≡ 2 * s + c → x + (2 * q + b) ≡ 2 * (q + s) + c
     carry x b c q s e = omega arith
 
@@ -121,10 +122,13 @@ rank-is (pos (suc n)) =
   where
     whole : (n : ℕ) → (2 * n + 1) / 8 ≡ n / 4
     whole n = omega arith
+
     part : (n : ℕ) → (2 * n + 1) % 8 ≡ 2 * (n % 4) + 1
     part n = omega arith
+
     next : (n : ℕ) → suc n % 4 ≡ (n % 4 + 1) % 4
     next n = omega arith
+
     sum : (n : ℕ) → 2 * (n / 4) + n % 4 / 2 ≡ (suc n + 1) / 2 - 1
     sum n = omega arith
 rank-is (negsuc n) =
@@ -136,9 +140,12 @@ rank-is (negsuc n) =
   where
     whole : (n : ℕ) → (2 * n + 2) / 8 ≡ n / 4 + (2 * (n % 4) + 2) / 8
     whole n = omega arith
+
     part : (n : ℕ) → (2 * n + 2) % 8 ≡ (2 * (n % 4) + 2) % 8
     part n = omega arith
+
     regroup : (a b c d : ℕ) → 2 * b + c ≡ d → 2 * (a + b) + c ≡ 2 * a + d
     regroup a b c d e = omega arith
+
     sum : (n : ℕ) → 2 * (n / 4) + (n % 4 + 1) / 2 ≡ (n + 1) / 2
     sum n = omega arith

@@ -52,8 +52,10 @@ module _ (p : ℕ) (hp : p < 2) where
     where
       top : (p + 2 * (c % 2)) / 2 ≡ c % 2
       top = omega arith
+
       turn : (a b : ℕ) → b + 2 * a ≡ a * 2 + b
       turn a b = omega arith
+
       digit : (n : ℕ) → c % 2 + 2 * (c / 2 % 2 ^ n) ≡ c % 2 ^ suc n
       digit n = turn (c / 2 % 2 ^ n) (c % 2) ∙ sym (mod-pow-add c n 1) ∙ ap (λ (m : ℕ). c % 2 ^ m) (add-one n)
 

@@ -57,6 +57,7 @@ unpack-pack (r ∷ v) t =
   where
     low : (r w : ℕ) → r < 16 → (r + 16 * w) % 16 ≡ r
     low r w h = omega arith
+
     high : (r w : ℕ) → r < 16 → (r + 16 * w) / 16 ≡ w
     high r w h = omega arith
 

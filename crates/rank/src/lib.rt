@@ -15,6 +15,9 @@ const REACH: u32 = 8;
 // The rank mark that says none.
 const NO_RANK: u32 = 15;
 
+// A packed rank has four bits: cost and contains take the ranks below this.
+const FOUR_BITS: u32 = 16;
+
 pub struct Valued {
     pub number: u32,
     pub value: i32,
@@ -28,7 +31,38 @@ pub enum Ranked {
 
 // The members of o + 4Z by rank, eight for each o.
 const VALUES: [i32; 32] = [
-    0, 4, -4, 8, -8, 12, -12, 16, 1, -3, 5, -7, 9, -11, 13, -15, 2, -2, 6, -6, 10, -10, 14, -14, -1, 3, -5, 7, -9, 11, -13, 15,
+    0,
+    4,
+    -4,
+    8,
+    -8,
+    12,
+    -12,
+    16,
+    1,
+    -3,
+    5,
+    -7,
+    9,
+    -11,
+    13,
+    -15,
+    2,
+    -2,
+    6,
+    -6,
+    10,
+    -10,
+    14,
+    -14,
+    -1,
+    3,
+    -5,
+    7,
+    -9,
+    11,
+    -13,
+    15,
 ];
 
 fn value_at(o: u32, rho: u32) -> i32
@@ -48,7 +82,10 @@ pub fn val(o: u32, rho: u32) -> Valued
             value: value_at(o, rho),
         }
     } else {
-        Valued { number: 7, value: 0 }
+        Valued {
+            number: 7,
+            value: 0,
+        }
     }
 }
 
@@ -154,7 +191,10 @@ pub fn rank_class(rho: [u32; 8]) -> Classed
             class: sum_of_k(rho) % 2,
         }
     } else {
-        Classed { number: 7, class: 0 }
+        Classed {
+            number: 7,
+            class: 0,
+        }
     }
 }
 
@@ -177,7 +217,7 @@ fn weigh(rho: [u32; 8]) -> u32
 pub fn cost(rho: [u32; 8]) -> Costed
     ensures { λ r. ⌜ r ≡ costedOf rho ⌝ }
 {
-    if all_below(rho, 16) {
+    if all_below(rho, FOUR_BITS) {
         Costed {
             number: 0,
             cost: weigh(rho),
@@ -213,12 +253,13 @@ pub fn unpack(row: u32) -> [u32; 8]
     rho
 }
 
-// Whether `a` is at most `b`, rank 0 most significant.
+// Whether `a` is at most `b`: rank 0 is compared first, it is the most significant.
 fn lex_le(a: [u32; 8], b: [u32; 8]) -> bool
     ensures { λ r. ⌜ r ≡ lexLe a b ⌝ }
 {
-    let mut j: usize = 0;
-    while j < 8 {
+    let mut left: usize = 8;
+    while 0 < left {
+        let j = 8 - left;
         let x = a[j];
         let y = b[j];
         if x < y {
@@ -227,7 +268,7 @@ fn lex_le(a: [u32; 8], b: [u32; 8]) -> bool
         if y < x {
             return false;
         }
-        j += 1;
+        left -= 1;
     }
     true
 }
@@ -259,7 +300,7 @@ impl Bound {
     pub fn contains(self, rho: [u32; 8]) -> Held
         ensures { λ r. ⌜ r ≡ heldOf (self .cost) (self .cut) rho ⌝ }
     {
-        if all_below(rho, 16) {
+        if all_below(rho, FOUR_BITS) {
             Held {
                 number: 0,
                 held: self.holds(rho),
@@ -295,7 +336,11 @@ pub const MIXED_BOUND: Bound = Bound {
 pub fn class_bound(c: u32) -> Bound
     ensures { λ r. ⌜ (r .cost ≡ boundCost c) × (r .cut ≡ boundCut c) ⌝ }
 {
-    if c == 0 { CLASS_BOUNDS[0] } else { CLASS_BOUNDS[1] }
+    if c == 0 {
+        CLASS_BOUNDS[0]
+    } else {
+        CLASS_BOUNDS[1]
+    }
 }
 
 // The bound of the middle section.

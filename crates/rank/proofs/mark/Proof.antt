@@ -39,8 +39,10 @@ marks c a e = (is, subst (λ (m : ℕ). m < 16) (sym is) (mark-lt y))
   where
     y : ℤ
     y = c .before .before .args .y
+
     back : toZ w32 (ofZ w32 y) ≡ y
     back = toZ-ofZ (c .before .before .fits .y)
+
     is : markIn a ≡ markOf y
     is =
         ap markIn (sym e ∙ c .rank-of .ensures

@@ -52,11 +52,18 @@ loop-again c =
     let eight : length rho ≡ 8 = search needs in
     let x = getD rho (l .j) 0 in
     let small : x % 2 ^ 4 < 2 ^ 4 = omega arith in
-    let low : l .row < 2 ^ (4 * l .j) = rw (l .inv .1) (packed-lt (l .j) rho) in
-    (omega arith,
-    rw (and-mask x 4, shl-exact 4 (4 * l .j) 32 small (omega arith), or-shifted-r (x % 2 ^ 4) (4 * l .j) (l .row) low, add-one,
-    packed-more (l .j) rho (omega arith), ← l .inv .1)
-    (add-comm _ _))
+    let low : l .row < 2 ^ (4 * l .j) = rw (l .inv .1) (packed-lt (l .j) rho) in (
+      omega arith,
+      rw (
+        and-mask x 4,
+        shl-exact 4 (4 * l .j) 32 small (omega arith),
+        or-shifted-r (x % 2 ^ 4) (4 * l .j) (l .row) low,
+        add-one,
+        packed-more (l .j) rho (omega arith),
+        ← l .inv .1,
+      )
+          (add-comm _ _),
+    )
 
 returns : tie.Need-returns Inv-loop μ-loop
 returns c =

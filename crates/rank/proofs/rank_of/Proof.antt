@@ -69,10 +69,11 @@ loop-less c = search needs
 loop-again : tie.Need-loop-again Inv-loop μ-loop
 loop-again c =
     let l = c .before .before .before .loop in
-    let st = c .before .before .before .before .before in
-    (omega arith,
-    below-more _ (l .rho) (l .inv .1)
-    (λ q. c .if2 .left (ap (ofZ w32) (c .before .value-at .ensures ∙ q ∙ toZ-ofZ (st .fits .y)))))
+    let st = c .before .before .before .before .before in (
+      omega arith,
+      below-more _ (l .rho) (l .inv .1)
+          (λ q. c .if2 .left (ap (ofZ w32) (c .before .value-at .ensures ∙ q ∙ toZ-ofZ (st .fits .y)))),
+    )
 
 returns-3 : tie.Need-returns-3 Inv-loop μ-loop
 returns-3 c =

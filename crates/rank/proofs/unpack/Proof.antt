@@ -45,10 +45,12 @@ loop-less c = search needs
 loop-again : tie.Need-loop-again Inv-loop μ-loop
 loop-again c =
     let l = c .before .loop in
-    let row = c .before .before .args .row in
-    (omega arith, simp length-set (l .inv .1),
-    filled-more ℕ 0 (λ (k : ℕ). row / 2 ^ (4 * k) % 16) (l .rho) (l .j) _ (omega arith) (and-mask (row / 2 ^ (4 * l .j)) 4)
-    (l .inv .2))
+    let row = c .before .before .args .row in (
+      omega arith,
+      simp length-set (l .inv .1),
+      filled-more ℕ 0 (λ (k : ℕ). row / 2 ^ (4 * k) % 16) (l .rho) (l .j) _ (omega arith) (and-mask (row / 2 ^ (4 * l .j)) 4)
+          (l .inv .2),
+    )
 
 returns : tie.Need-returns Inv-loop μ-loop
 returns c =
