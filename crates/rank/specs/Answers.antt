@@ -1,6 +1,6 @@
 -- What this crate's functions answer, for every input: number 0 where a call is accepted, document 01's number 7 where it is refused.
 -- Assumes nothing.
-use mathlib.Core.Bool.{Bool, false, cond, _&&_}
+use mathlib.Core.Bool.{false, cond, _&&_}
 use mathlib.Core.List.{List, map}
 use mathlib.Core.Option.{Option, none, some}
 use Prim.Native.Nat.{ℕ, _%_}

@@ -1,7 +1,7 @@
 -- Laws of coordinates: o = p + 2c, the rank of the member at a rank, the member at the rank of y, the parity of k by rank. Assumes nothing.
 use mathlib.Core.Path.{_≡_, ap, ap₂, sym, _∙_}
 use mathlib.Core.Bool.{Bool, _&&_}
-use Prim.Native.Nat.{ℕ, _+_, _*_, _-_, _/_, _%_, _<_, _≤_}
+use Prim.Native.Nat.{ℕ, _+_, _*_, _/_, _%_, _<_}
 use native.Mathlib.Omega.{arith}
 use lib.Pow.{shr-shr}
 use lib.Dec.{T, ltb, eqb, eqb→eq, lt→ltb}
@@ -9,7 +9,7 @@ use lib.IntN.{ℤ, pos, negsuc}
 use Rattle.laws.specs.Tests.{and-left, and-right, split4, implies, modus, upto, below, below2}
 use Rattle.laws.specs.Whole.{modZ, eqZ, eqZ→eq, mod4-lt}
 use Rattle.rank.specs.Coord.{parityOf, bitOf, kOf, rankOf, valOf}
-use Rattle.rank.specs.RankOrder.{rankBy, rank-is}
+use Rattle.rank.specs.RankOrder.{rank-is}
 
 -- ---- o = p + 2c
 quarter : (n : ℕ) → n % 2 + 2 * (n / 2 % 2) ≡ n % 4
@@ -21,10 +21,6 @@ quarter n = omega (arith, q)
 pub residue : (y : ℤ) → parityOf y + 2 * bitOf y ≡ modZ y 4
 residue (pos n) = quarter n
 residue (negsuc n) = omega (arith, quarter n)
-
-pub bit-lt : (y : ℤ) → bitOf y < 2
-bit-lt (pos n) = omega arith
-bit-lt (negsuc n) = omega arith
 
 pub halves : (y : ℤ) → (modZ y 4 % 2 ≡ parityOf y) × (modZ y 4 / 2 ≡ bitOf y)
 halves (pos n) = (omega arith, omega arith)

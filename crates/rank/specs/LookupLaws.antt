@@ -1,23 +1,20 @@
 -- Laws of the lookup of a rank: when it answers one, that it and val undo each other, and the marks of a row. Assumes nothing.
-use mathlib.Core.Path.{_≡_, refl, ap, ap₂, sym, subst, _∙_}
+use mathlib.Core.Path.{_≡_, refl, ap, ap₂, sym, _∙_}
 use mathlib.Core.Bool.{Bool, true, false, cond, _&&_}
-use mathlib.Core.List.{List, [], _∷_, map}
-use mathlib.Core.Option.{Option, none, some}
-use Prim.Native.Nat.{ℕ, zero, suc, _+_, _<_, _≤_}
-use native.Mathlib.Decide.{ℕ-discrete, decLt}
+use mathlib.Core.List.{List, [], _∷_}
+use mathlib.Core.Option.{none, some}
+use Prim.Native.Nat.{ℕ, _<_, _≤_}
 use native.Mathlib.Omega.{arith}
-use borrow.Author.Tests.{lt-ltb, le-ltb, eq-eqb, ne-eqb, ltb-true, eqb-true}
+use borrow.Author.Tests.{lt-ltb, eq-eqb, ltb-true, eqb-true}
 use lib.Dec.{T, ltb, eqb}
-use lib.IntN.{ℤ, pos, negsuc}
-use Rattle.laws.specs.Whole.{modZ, mod4-lt}
+use lib.IntN.{ℤ}
+use Rattle.laws.specs.Whole.{modZ}
 use Rattle.rank.specs.Coord.{rankOf, valOf}
 use Rattle.rank.specs.CoordLaws.{member, member-of, val-rank}
 use Rattle.rank.specs.Vector.{ranksBelow}
 use Rattle.rank.specs.VectorLaws.{rank-first, rank-rest}
 use Rattle.rank.specs.Section.{ranksOf}
 use Rattle.rank.specs.Answers.{outOfRange, reach, valuedOf, rankedOf, numberOf, rankIn, noRank, markOf, marksOf}
-use Rattle.rank.specs.declared.Valued.{Valued}
-use Rattle.rank.specs.declared.Ranked.{Ranked}
 use Rattle.rank.specs.declared.Ranked.the-variants.{Rank, Nothing, Refused}
 
 pub ranked-found : (o : ℕ) (y : ℤ) (r : ℕ) → o < 4 → r < reach → valOf o r ≡ y → rankedOf o y ≡ Rank r

@@ -2,7 +2,7 @@
 use mathlib.Core.Path.{_≡_, refl, ap, ap₂, sym, _∙_}
 use mathlib.Core.Bool.{Bool, true, false}
 use mathlib.Core.List.{List, [], _∷_}
-use Prim.Native.Nat.{ℕ, zero, suc, _+_, _*_, _-_, _/_, _%_, _<_, _≤_}
+use Prim.Native.Nat.{ℕ, zero, suc, _+_, _*_, _-_, _/_, _%_, _<_}
 use native.Mathlib.Omega.{arith}
 use lib.Pow.{field, mod-mod-pow}
 use lib.Dec.{T, eqb, eqb→eq}
@@ -10,7 +10,7 @@ use lib.IntN.{ℤ, pos, negsuc}
 use lib.ListN.{getD}
 use Rattle.laws.specs.Tests.{upto, below, below2}
 use Rattle.laws.specs.Whole.{modZ, mod4-lt}
-use Rattle.rank.specs.Coord.{outward, standing, countTo, rankOf}
+use Rattle.rank.specs.Coord.{outward, countTo, rankOf}
 
 -- half the magnitude, whichever the residue
 abbrev pub rankBy : ℤ → ℕ

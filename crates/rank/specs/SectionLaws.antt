@@ -1,20 +1,19 @@
 -- Laws of coordinates in a row, of any length. Assumes nothing.
 use mathlib.Core.Path.{_≡_, refl, ap, ap₂, sym, _∙_}
-use mathlib.Core.Bool.{Bool, _&&_}
 use mathlib.Core.List.{List, [], _∷_, map}
-use Prim.Native.Nat.{ℕ, suc, _+_, _*_, _/_, _%_, _^_, _<_, _≤_}
+use Prim.Native.Nat.{ℕ, suc, _+_, _*_, _/_, _%_, _^_, _<_}
 use native.Mathlib.Nat.{mul-zero, mul-add}
 use native.Mathlib.Numerals.{add-one}
 use native.Mathlib.Omega.{arith}
 use lib.Pow.{mod-pow-add}
 use lib.Dec.{T, eqb, eqb→eq}
-use lib.IntN.{ℤ, pos, negsuc, _+ℤ_}
+use lib.IntN.{ℤ}
 use lib.ListN.{length}
 use Rattle.laws.specs.Tests.{and-left, and-right, and-in, eq→eqb}
-use Rattle.laws.specs.Whole.{modZ, parity-add}
+use Rattle.laws.specs.Whole.{modZ, divZ, mod2-lt, parity-add}
 use Rattle.laws.specs.Bits.{weight}
 use Rattle.rank.specs.Coord.{parityOf, bitOf, kOf, rankOf, valOf}
-use Rattle.rank.specs.CoordLaws.{Member, member, val-rank, k-parity, residue, bit-lt}
+use Rattle.rank.specs.CoordLaws.{Member, member, val-rank, k-parity, residue}
 use Rattle.rank.specs.Vector.{ranksBelow, kZero, class}
 use Rattle.rank.specs.VectorLaws.{rank-first, rank-rest}
 use Rattle.rank.specs.Section.{pointAt, uniform, bitsOf, ranksOf, kSum}
@@ -74,14 +73,14 @@ point-length p c (r ∷ v) = ap suc (point-length p (c / 2) v)
 -- the bits of a row, taken apart
 bits-low : (y : ℤ) (t : List ℤ) → bitsOf (y ∷ t) % 2 ≡ bitOf y
 unfolding bitsOf
-bits-low y t = digit (bitOf y) (bitsOf t) (bit-lt y)
+bits-low y t = digit (bitOf y) (bitsOf t) (mod2-lt (divZ y 2))
   where
     digit : (b c : ℕ) → b < 2 → (b + 2 * c) % 2 ≡ b
     digit b c h = omega arith
 
 bits-high : (y : ℤ) (t : List ℤ) → bitsOf (y ∷ t) / 2 ≡ bitsOf t
 unfolding bitsOf
-bits-high y t = digit (bitOf y) (bitsOf t) (bit-lt y)
+bits-high y t = digit (bitOf y) (bitsOf t) (mod2-lt (divZ y 2))
   where
     digit : (b c : ℕ) → b < 2 → (b + 2 * c) / 2 ≡ c
     digit b c h = omega arith

@@ -332,7 +332,7 @@ pub const MIXED_BOUND: Bound = Bound {
     cut: [3, 0, 0, 0, 1, 0, 1, 0],
 };
 
-// The bound of the class `c`, 0 or 1.
+// The bound of class 0, and for any other `c` that of class 1.
 pub fn class_bound(c: u32) -> Bound
     ensures { λ r. ⌜ (r .cost ≡ boundCost c) × (r .cut ≡ boundCut c) ⌝ }
 {

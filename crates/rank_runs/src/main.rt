@@ -131,7 +131,7 @@ fn vectors() {
     show_cost(odd);
     show_class(odd);
     show_held(b"middle", rank::MIXED_BOUND, odd);
-    show_held(b"class 0", rank::class_bound(0), odd);
+    show_held(b"class 0", rank::CLASS_BOUNDS[0], odd);
     show_held(b"middle", rank::mixed_bound(), [1, 1, 1, 1, 1, 1, 1, 1]);
     show_held(b"middle", rank::mixed_bound(), [3, 0, 0, 0, 1, 0, 1, 0]);
     show_held(b"class 1", rank::class_bound(1), [0, 0, 2, 2, 2, 0, 1, 1]);

@@ -1,7 +1,6 @@
 -- `rank::class_bound`: the two bounds are those of the definition. Assumes nothing.
 use mathlib.Core.Path.{_≡_, refl}
 use Prim.Native.Nat.{ℕ, zero, suc}
-use native.Mathlib.Omega.{arith}
 use borrow.Author.Needs.{needs}
 use Rattle.rank.specs.Vector.{boundCost, boundCut}
 use Rattle.rank.proofs.class_bound.Statement.{statement}
@@ -19,7 +18,7 @@ array-copy-out-result-2 : tie.Need-array-copy-out-result-2
 array-copy-out-result-2 c = search needs
 
 returns : tie.Need-returns
-returns c = search needs
+returns c = rw (c .before .if1 .taken) (refl, refl)
 
 returns-2 : tie.Need-returns-2
 returns-2 c = other (c .before .before .args .c) (c .before .if1 .left)

@@ -1,5 +1,5 @@
 -- `rank::cost`. Assumes nothing.
-use mathlib.Core.Path.{_≡_, sym, _∙_}
+use mathlib.Core.Path.{sym, _∙_}
 use borrow.Author.Needs.{needs}
 use Rattle.rank.specs.Answers.{costedOf}
 use Rattle.rank.proofs.cost.Statement.{statement}

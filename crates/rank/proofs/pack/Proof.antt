@@ -1,6 +1,6 @@
 -- `rank::pack`: the ranks packed so far. Assumes nothing.
 use mathlib.Core.Path.{_≡_, refl, ap, _∙_}
-use Prim.Native.Nat.{ℕ, _*_, _%_, _^_, _-_, _≤_, _<_}
+use Prim.Native.Nat.{_*_, _%_, _^_, _-_, _≤_, _<_}
 use native.Mathlib.Nat.{add-comm}
 use native.Mathlib.Numerals.{add-one}
 use native.Mathlib.Omega.{arith}

@@ -1,5 +1,5 @@
 -- `rank::rank_class`. Assumes nothing.
-use mathlib.Core.Path.{_≡_, sym, _∙_}
+use mathlib.Core.Path.{sym, _∙_}
 use borrow.Author.Needs.{needs}
 use Rattle.rank.specs.Answers.{classedOf}
 use Rattle.rank.proofs.rank_class.Statement.{statement}

@@ -1,5 +1,5 @@
 -- `rank::Bound::holds`: the comparison of costs, then that of the ranks. Assumes nothing.
-use mathlib.Core.Path.{_≡_, sym, _∙_}
+use mathlib.Core.Path.{sym, _∙_}
 use native.Mathlib.Omega.{arith}
 use borrow.Author.Needs.{needs}
 use Rattle.laws.specs.Order.{lexLe, pick3-less, pick3-same, pick3-more}
