@@ -44,6 +44,13 @@ rankIn (Rank r) = some r
 rankIn Nothing = none
 rankIn Refused = none
 
+-- what they are to be
+unfoldable pub lookupNumber : ℕ → ℕ
+lookupNumber o = cond (ltb o 4) 0 outOfRange
+
+unfoldable pub lookupRank : ℕ → ℤ → Option ℕ
+lookupRank o y = cond (ltb o 4 && (eqb (modZ y 4) o && ltb (rankOf y) reach)) (some (rankOf y)) none
+
 -- ---- mark: the rank of y in its own o + 4Z where the lookup reaches it, and elsewhere the mark 15, which says none
 abbrev pub noRank : ℕ
 noRank = 15

@@ -2,7 +2,6 @@
 use mathlib.Core.Path.{_≡_, refl, ap, ap₂, sym, _∙_}
 use mathlib.Core.Bool.{Bool, true, false, cond, _&&_}
 use mathlib.Core.List.{List, [], _∷_}
-use mathlib.Core.Option.{none, some}
 use Prim.Native.Nat.{ℕ, _<_, _≤_}
 use native.Mathlib.Omega.{arith}
 use borrow.Author.Tests.{lt-ltb, eq-eqb, ltb-true, eqb-true}
@@ -14,35 +13,16 @@ use Rattle.rank.specs.CoordLaws.{member, member-of, val-rank}
 use Rattle.rank.specs.Vector.{ranksBelow}
 use Rattle.rank.specs.VectorLaws.{rank-first, rank-rest}
 use Rattle.rank.specs.Section.{ranksOf}
-use Rattle.rank.specs.Answers.{outOfRange, reach, valuedOf, rankedOf, numberOf, rankIn, noRank, markOf, marksOf}
+use Rattle.rank.specs.Answers.{reach, valuedOf, rankedOf, noRank, markOf, marksOf}
 use Rattle.rank.specs.declared.Ranked.the-variants.{Rank, Nothing, Refused}
 
+-- ---- a rank that the lookup reaches is found
 pub ranked-found : (o : ℕ) (y : ℤ) (r : ℕ) → o < 4 → r < reach → valOf o r ≡ y → rankedOf o y ≡ Rank r
 unfolding rankedOf
 ranked-found o y r ho hr e =
     let q : rankOf y ≡ r = ap rankOf (sym e) ∙ member o r ho (omega arith) .rank in
     let m : modZ y 4 ≡ o = ap (λ (z : ℤ). modZ z 4) (sym e) ∙ member-of o r ho (omega arith) in
     rw (lt-ltb o 4 ho, q, m, eq-eqb o o refl, lt-ltb r reach hr)
-
--- document 01's number and value of what is answered
-pub ranked-number : (o : ℕ) (y : ℤ) → numberOf (rankedOf o y) ≡ cond (ltb o 4) 0 outOfRange
-unfolding rankedOf
-ranked-number o y = go (ltb o 4) (eqb (modZ y 4) o && ltb (rankOf y) reach)
-  where
-    go : (a b : Bool) → numberOf (cond a (cond b (Rank (rankOf y)) Nothing) Refused) ≡ cond a 0 outOfRange
-    go true true = refl
-    go true false = refl
-    go false b = refl
-
-pub ranked-rank : (o : ℕ) (y : ℤ)
-    → rankIn (rankedOf o y) ≡ cond (ltb o 4 && (eqb (modZ y 4) o && ltb (rankOf y) reach)) (some (rankOf y)) none
-unfolding rankedOf
-ranked-rank o y = go (ltb o 4) (eqb (modZ y 4) o && ltb (rankOf y) reach)
-  where
-    go : (a b : Bool) → rankIn (cond a (cond b (Rank (rankOf y)) Nothing) Refused) ≡ cond (a && b) (some (rankOf y)) none
-    go true true = refl
-    go true false = refl
-    go false b = refl
 
 -- ---- the lookup and val undo each other: of ranks up to 4, and wherever a rank is answered
 pub rank-of-val : (o r : ℕ) → o < 4 → r ≤ 4 → rankedOf o (valOf o r) ≡ Rank r

@@ -7,7 +7,8 @@ ghost use Rattle.laws.specs.Whole.{modZ};
 ghost use Rattle.rank.specs.Coord.{parityOf, bitOf, valOf};
 ghost use Rattle.rank.specs.Vector.{ranksBelow, kZero, boundCost, boundCut, middleCost, middleCut};
 ghost use Rattle.rank.specs.Vector as vector;
-ghost use Rattle.rank.specs.Answers.{valuedOf, rankedOf, markOf, classedOf, costedOf, heldOf, packedOf};
+ghost use Rattle.rank.specs.Answers.{valuedOf, rankedOf, numberOf, rankIn, lookupNumber, lookupRank, markOf};
+ghost use Rattle.rank.specs.Answers.{classedOf, costedOf, heldOf, packedOf};
 
 // The ranks that rank_of looks at are those below this.
 const REACH: u32 = 8;
@@ -91,7 +92,7 @@ pub fn val(o: u32, rho: u32) -> Valued
 
 // The rank of `y` in o + 4Z; nothing where it is not in it or stands past the reach.
 pub fn rank_of(o: u32, y: i32) -> Ranked
-    ensures { λ r. ⌜ r ≡ rankedOf o y ⌝ }
+    ensures { λ r. ⌜ (r ≡ rankedOf o y) × (numberOf r ≡ lookupNumber o) × (rankIn r ≡ lookupRank o y) ⌝ }
 {
     if 4 <= o {
         return Ranked::Refused;

@@ -114,28 +114,40 @@ fn values() {
     show_val(3, 7);
     show_val(4, 0);
     show_val(0, 8);
+}
+
+fn lookups() {
     show_rank(0, -4);
     show_rank(1, -3);
     show_rank(1, -4);
     show_rank(0, 16);
     show_rank(0, -16);
     show_rank(4, 0);
+}
+
+fn coordinates() {
     show_coordinate(-3);
     show_coordinate(12);
     show_coordinate(-16);
     show_coordinate(-2147483648);
 }
 
-fn vectors() {
-    let odd = [3, 0, 0, 0, 1, 1, 0, 0];
-    show_cost(odd);
-    show_class(odd);
-    show_held(b"middle", rank::MIXED_BOUND, odd);
-    show_held(b"class 0", rank::CLASS_BOUNDS[0], odd);
+fn bounds() {
+    let rho = [3, 0, 0, 0, 1, 1, 0, 0];
+    show_cost(rho);
+    show_class(rho);
+    show_held(b"middle", rank::MIXED_BOUND, rho);
+    show_held(b"class 0", rank::CLASS_BOUNDS[0], rho);
     show_held(b"middle", rank::mixed_bound(), [1, 1, 1, 1, 1, 1, 1, 1]);
+}
+
+fn cuts() {
     show_held(b"middle", rank::mixed_bound(), [3, 0, 0, 0, 1, 0, 1, 0]);
     show_held(b"class 1", rank::class_bound(1), [0, 0, 2, 2, 2, 0, 1, 1]);
     show_held(b"class 1", rank::class_bound(1), [0, 0, 2, 2, 2, 0, 1, 2]);
+}
+
+fn edges() {
     show_class([0, 0, 0, 0, 0, 0, 0, 7]);
     show_class([0, 0, 0, 0, 0, 0, 0, 8]);
     show_cost([15, 15, 15, 15, 15, 15, 15, 15]);
@@ -147,5 +159,9 @@ fn vectors() {
 
 fn main() {
     values();
-    vectors();
+    lookups();
+    coordinates();
+    bounds();
+    cuts();
+    edges();
 }

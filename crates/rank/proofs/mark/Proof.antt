@@ -44,7 +44,7 @@ marks c a e = (is, subst (λ (m : ℕ). m < 16) (sym is) (mark-lt y))
 
     is : markIn a ≡ markOf y
     is =
-        ap markIn (sym e ∙ c .rank-of .ensures
+        ap markIn (sym e ∙ c .rank-of .ensures .0
         ∙ ap₂ rankedOf (c .before .residue .ensures .0 ∙ ap (λ (z : ℤ). modZ z 4) back) back) ∙ mark-in y
 
 residue-requires : tie.Need-residue-requires
