@@ -90,6 +90,7 @@ LexLe [] w = Unit
 LexLe (x ∷ v) [] = ⊥
 LexLe (x ∷ v) (y ∷ w) = (x < y) ⊎ ((x ≡ y) × LexLe v w)
 
+-- a comparison, as a statement
 pub pick3-says : (a b : ℕ) (p : Bool) (P : Type 0) → Says p P → Says (pick3 (compare a b) p) ((a < b) ⊎ ((a ≡ b) × P))
 unfolding Says
 pick3-says a b p P s = says-by (pick3 (compare a b) p) ((a < b) ⊎ ((a ≡ b) × P)) (λ e. out (pick3-out a b p (true-is _ e))) back
