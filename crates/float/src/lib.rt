@@ -1,0 +1,1 @@
+// Doubles as whole numbers: their laws are in specs/.
