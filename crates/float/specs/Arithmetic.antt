@@ -143,7 +143,7 @@ product m n u x y d c p q =
     let r : x * d * (y * c) ≡ x * y * (d * c) = simp (mul-assoc, mul-comm, mul-left-comm) in
     l ∙ ap₂ (λ (i j : ℕ). i * j) p q ∙ r
 
--- what both multiplication's error laws need: the fraction that is rounded is (magUnits x * magUnits y) / U units
+-- z is a fraction num / den that is v / w units, rounded with the sign s: the absolute and the relative law start from it
 pub record Fraction (z : Float) (s : Bool) (v w : ℕ) : Type 0 where
   pub num : ℕ
   pub den : ℕ

@@ -5,3 +5,6 @@ pub mod Error
 pub mod Calls
 pub mod Near
 pub mod Arithmetic
+pub mod Relative
+pub mod Distance
+pub mod Margin
