@@ -1,5 +1,5 @@
 -- The comparisons of two finite doubles are those of their exact values, whatever the signs. Assumes nothing.
-use mathlib.Core.Path.{_≡_, sym, ap, _∙_, subst}
+use mathlib.Core.Path.{_≡_, refl, sym, ap, _∙_, subst}
 use mathlib.Core.Bool.{Bool, true, false, cond, _||_, Bool·beq}
 use mathlib.Core.Logic.{inl, inr}
 use Prim.Native.Nat.{ℕ, suc, _+_, _*_, _≤_, _<_}
@@ -27,8 +27,8 @@ use lib.Ieee.{Float, nan, inf, fin, binary64, up, down, fits, lt, le, eq, below,
 use lib.Ieee.Fits.{down-pos}
 use lib.Ieee.Scale.{finite}
 use Rattle.laws.specs.Tests.{and-left, and-right, and-in, eq→eqb, or-left, or-right, or-cases}
-use Rattle.float.specs.Value.{U, magUnits, posUnits, negUnits}
-use Rattle.float.specs.Exact.{has-value, scaled}
+use Rattle.float.specs.Value.{U, magUnits, isMinus, posUnits, negUnits, zero64}
+use Rattle.float.specs.Exact.{zero-fits, zero-mag, has-value, scaled}
 
 -- x < y, x ≤ y and x = y as whole numbers of units
 abbrev pub Less : Float → Float → Type 0
@@ -180,3 +180,42 @@ is-le x y fx fy ix iy h =
       | inl e ↦ or-right (lt x y) (eq x y) (is-eq x y fx fy ix iy e)
       | inr l ↦ or-left (lt x y) (eq x y) (is-lt x y fx fy ix iy l)
     ]
+
+-- ---- against zero
+pub lt-zero : (x : Float) → T (fits binary64 x) → T (finite x) → T (lt x zero64) → (isMinus x ≡ true) × (0 < magUnits x)
+lt-zero x f i t = go (isMinus x) (magUnits x) (magUnits zero64) zero-mag (lt-is x zero64 f zero-fits i tt t)
+  where
+    go : (s : Bool) (g o : ℕ) → o ≡ 0 → cond s 0 g + 0 < o + cond s g 0 → (s ≡ true) × (0 < g)
+    go true g o e h = (refl, omega arith)
+    go false g o e h = absurd (omega arith)
+
+pub zero-lt : (x : Float) → T (fits binary64 x) → T (finite x) → T (lt zero64 x) → (isMinus x ≡ false) × (0 < magUnits x)
+zero-lt x f i t = go (isMinus x) (magUnits x) (magUnits zero64) zero-mag (lt-is zero64 x zero-fits f tt i t)
+  where
+    go : (s : Bool) (g o : ℕ) → o ≡ 0 → o + cond s g 0 < cond s 0 g + 0 → (s ≡ false) × (0 < g)
+    go false g o e h = (refl, omega arith)
+    go true g o e h = absurd (omega arith)
+
+pub eq-zero : (x : Float) → T (fits binary64 x) → T (finite x) → T (eq x zero64) → magUnits x ≡ 0
+eq-zero x f i t = go (isMinus x) (magUnits x) (magUnits zero64) zero-mag (eq-is x zero64 f zero-fits i tt t)
+  where
+    go : (s : Bool) (g o : ℕ) → o ≡ 0 → cond s 0 g + 0 ≡ o + cond s g 0 → g ≡ 0
+    go false g o e h = omega arith
+    go true g o e h = omega arith
+
+pub zero-eq : (x : Float) → T (fits binary64 x) → T (finite x) → magUnits x ≡ 0 → T (eq x zero64)
+zero-eq x f i z = is-eq x zero64 f zero-fits i tt (go (isMinus x) (magUnits x) (magUnits zero64) zero-mag z)
+  where
+    go : (s : Bool) (g o : ℕ) → o ≡ 0 → g ≡ 0 → cond s 0 g + 0 ≡ o + cond s g 0
+    go false g o e h = omega arith
+    go true g o e h = omega arith
+
+pub from-zero : (x : Float) → T (fits binary64 x) → T (finite x) → T (le zero64 x) → negUnits x ≡ 0
+from-zero x f i t = go (isMinus x) (magUnits x) (magUnits zero64) zero-mag (le-is zero64 x zero-fits f tt i t)
+  where
+    go : (s : Bool) (g o : ℕ) → o ≡ 0 → o + cond s g 0 ≤ cond s 0 g + 0 → cond s g 0 ≡ 0
+    go false g o e h = refl
+    go true g o e h = omega arith
+
+pub not-lt-zero : (x : Float) → T (fits binary64 x) → T (finite x) → lt x zero64 ≡ false → T (le zero64 x)
+not-lt-zero x f i e = is-le zero64 x zero-fits f tt i (not-lt-is x zero64 f zero-fits i tt e)

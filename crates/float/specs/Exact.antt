@@ -33,7 +33,7 @@ use lib.Ieee.Exact.{HasValue, round-exact}
 use lib.Ieee.Scale.{finite}
 use Rattle.laws.specs.Tests.{and-left, and-right}
 use Rattle.laws.specs.Whole.{posPart, negPart}
-use Rattle.float.specs.Value.{U, magUnits, isMinus, posUnits, negUnits, one64}
+use Rattle.float.specs.Value.{U, magUnits, isMinus, posUnits, negUnits, zero64, one64}
 
 -- ---- what it is for a finite double to fit the format
 pow-le-inv : (i j : ℕ) → 2 ^ i ≤ 2 ^ j → i ≤ j
@@ -105,6 +105,15 @@ exactly (fin u m e) s g t v =
       sign = v .0;
       mag = eq-of-mul-eq-mul-right (down e) (down-pos e) (magUnits x) g (sym (has-value x t tt .1) ∙ v .1);
     }
+
+-- 0.0 has no units
+pub zero-fits : T (fits binary64 zero64)
+unfolding fits
+zero-fits = tt
+
+pub zero-mag : magUnits zero64 ≡ 0
+unfolding magUnits
+zero-mag = refl
 
 -- ---- the two parts of the value
 abbrev pub Parts : Bool → Float → Type 0

@@ -8,3 +8,5 @@ pub mod Arithmetic
 pub mod Relative
 pub mod Distance
 pub mod Margin
+pub mod Rounding
+pub mod Arrays

@@ -15,7 +15,7 @@ use lib.Ieee.Scale.{finite}
 use Rattle.laws.specs.Whole.{gap}
 use Rattle.float.specs.Value.{magUnits, isMinus, posUnits, negUnits, zero64}
 use Rattle.float.specs.Calls.{absOf}
-use Rattle.float.specs.Exact.{Exactly, neg-exactly}
+use Rattle.float.specs.Exact.{zero-fits, Exactly, neg-exactly}
 use Rattle.float.specs.Compare.{is-lt}
 use Rattle.float.specs.Error.{halfUlp, Rounded}
 
@@ -49,7 +49,7 @@ near-self x f i = record { fit = f; fin = i; lo = omega arith; hi = omega arith 
 pub near-zero : (c : ℕ) → Near c zero64 0 0 0
 near-zero c =
     record {
-      fit = unfold fits in tt;
+      fit = zero-fits;
       fin = tt;
       lo = unfold magUnits in omega (arith, zero-mul c);
       hi = unfold magUnits in omega (arith, zero-mul c);
