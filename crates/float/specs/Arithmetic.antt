@@ -40,7 +40,7 @@ use lib.Ieee.Fits.{down-pos, up-pos}
 use lib.Ieee.Scale.{finite}
 use Rattle.laws.specs.Whole.{gap}
 use Rattle.float.specs.Value.{U, magUnits, isMinus, posUnits, negUnits, four64}
-use Rattle.float.specs.Exact.{has-value, scaled, neg-exactly, mag-parts}
+use Rattle.float.specs.Exact.{has-value, no-digits, scaled, neg-exactly, mag-parts}
 use Rattle.float.specs.Error.{halfUlp, Rounded, round-units, rounded-cancel}
 use Rattle.float.specs.Near.{Near, near-more, near-parts, near-scale, near-neg, near-mag, mag-near, rounded-near, near-signed}
 
@@ -183,11 +183,6 @@ quotient m n u x y d c p q =
     let l : m * c * u * y ≡ m * u * (y * c) = simp (mul-assoc, mul-comm, mul-left-comm) in
     let r : x * d * (n * u) ≡ x * u * (n * d) = simp (mul-assoc, mul-comm, mul-left-comm) in
     l ∙ ap₂ (λ (i j : ℕ). i * j) p (sym q) ∙ r
-
-no-digits : (t : Bool) (d : ℤ) → magUnits (fin t 0 d) ≡ 0
-unfolding magUnits
-no-digits t (pos k) = zero-mul (2 ^ (k + 1074))
-no-digits t (negsuc k) = zero-mul (2 ^ (1074 - suc k))
 
 pub div-fraction : (x y : Float) → T (fits binary64 x) → T (fits binary64 y) → T (finite x) → T (finite y) → 0 < magUnits y
     → Fraction (div binary64 x y) (unlike (isMinus x) (isMinus y)) (magUnits x * U) (magUnits y)

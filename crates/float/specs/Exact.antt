@@ -106,7 +106,17 @@ exactly (fin u m e) s g t v =
       mag = eq-of-mul-eq-mul-right (down e) (down-pos e) (magUnits x) g (sym (has-value x t tt .1) ∙ v .1);
     }
 
--- 0.0 has no units
+-- a zero has no units, and what has digits has some
+pub no-digits : (s : Bool) (e : ℤ) → magUnits (fin s 0 e) ≡ 0
+unfolding magUnits
+no-digits s (pos k) = zero-mul (2 ^ (k + 1074))
+no-digits s (negsuc k) = zero-mul (2 ^ (1074 - suc k))
+
+pub some-digits : (s : Bool) (m : ℕ) (e : ℤ) → 0 < magUnits (fin s (suc m) e)
+unfolding magUnits
+some-digits s m (pos k) = mul-pos (zero-lt-suc m) (pow-pos (k + 1074))
+some-digits s m (negsuc k) = mul-pos (zero-lt-suc m) (pow-pos (1074 - suc k))
+
 pub zero-fits : T (fits binary64 zero64)
 unfolding fits
 zero-fits = tt
@@ -154,11 +164,11 @@ mag-lt (fin s m e) f i =
     (lt-of-le-of-lt (le-of-eq (sym (has-value (fin s m e) f tt .1)))
     (lt-of-lt-of-le (mul-lt-mul-of-pos-right (fitting s m e f .high) (pow-pos 1074)) (le-of-eq (mul-right-comm (2 ^ 1024) (down e) U))))
 
--- ---- two finite doubles of one sign and one number of units are the same: their bits are
-abbrev bitsOf : Bool → ℕ → ℕ
+-- ---- the bits of a finite double, from its sign and its units: how many digits are cut off, and the digits that are kept
+abbrev pub bitsOf : Bool → ℕ → ℕ
 bitsOf s g = cond s (top binary64) 0 + (size g - 53) * 2 ^ 52 + g / 2 ^ (size g - 53)
 
-bits-are : (x : Float) → T (fits binary64 x) → T (finite x) → toBits binary64 x ≡ bitsOf (isMinus x) (magUnits x)
+pub bits-are : (x : Float) → T (fits binary64 x) → T (finite x) → toBits binary64 x ≡ bitsOf (isMinus x) (magUnits x)
 unfolding toBits
 bits-are nan f i = absurd i
 bits-are (inf s) f i = absurd i
@@ -166,6 +176,7 @@ bits-are (fin s m e) f i =
     let g = magUnits (fin s m e) in
     ap (bitsOf s) (ap (λ (z : ℕ). z / down e) (has-value (fin s m e) f tt .1) ∙ mul-div-cancel g (down-pos e))
 
+-- so two of one sign and one number of units are the same
 pub same-units : (x y : Float) → T (fits binary64 x) → T (fits binary64 y) → T (finite x) → T (finite y) → isMinus x ≡ isMinus y
     → magUnits x ≡ magUnits y → x ≡ y
 same-units x y fx fy ix iy s g =

@@ -10,3 +10,4 @@ pub mod Distance
 pub mod Margin
 pub mod Rounding
 pub mod Arrays
+pub mod Examples
