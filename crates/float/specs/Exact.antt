@@ -1,6 +1,6 @@
 -- A double's units are its value, and they and the sign fix the double; results that are exact. Assumes nothing.
 use mathlib.Core.Path.{_≡_, refl, sym, ap, ap₂, _∙_, subst}
-use mathlib.Core.Bool.{Bool, true, false, cond, _&&_}
+use mathlib.Core.Bool.{Bool, true, false, cond, not, _&&_}
 use Prim.Native.Nat.{ℕ, zero, suc, _+_, _-_, _*_, _/_, _%_, _^_, _≤_, _<_}
 use native.Mathlib.Nat.{
   le-of-eq,
@@ -26,7 +26,7 @@ use native.Mathlib.Omega.{arith}
 use lib.Dec.{T, leb, ltb, eqb, leb→le, ltb→lt, lit≤}
 use lib.IntN.{ℤ, pos, negsuc, natAbs}
 use lib.Pow.{pow-add, pow-lt, pow-pos}
-use lib.Ieee.{Float, nan, inf, fin, binary64, up, down, size, unlike, fits, round, sum, add, mul, neg, ofInt, toBits, ofBits, top}
+use lib.Ieee.{Float, nan, inf, fin, binary64, up, down, size, unlike, fits, round, sum, add, mul, neg, ofInt, toBits, ofBits, top, isNan}
 use lib.Ieee.Fits.{down-pos, round-fits, neg-fits}
 use lib.Ieee.Bits.{ofBits-toBits}
 use lib.Ieee.Exact.{HasValue, round-exact}
@@ -86,6 +86,12 @@ has-value (fin s (suc m) (negsuc k)) t i =
           ∙ ap (λ (x : ℕ). suc m * x) (pow-add 2 (1074 - suc k) (suc k))
           ∙ sym (mul-assoc (suc m) (2 ^ (1074 - suc k)) (2 ^ suc k)),
     )
+
+pub no-nan : (x : Float) → T (finite x) → T (not (isNan x))
+unfolding isNan
+no-nan nan i = absurd i
+no-nan (inf s) i = tt
+no-nan (fin s m e) i = tt
 
 -- x is the double of g units with the sign s
 pub record Exactly (x : Float) (s : Bool) (g : ℕ) : Type 0 where

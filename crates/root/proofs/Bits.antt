@@ -22,7 +22,7 @@ use native.Mathlib.Nat.{
 use native.Mathlib.Omega.{arith}
 use lib.Dec.{T, leb, eqb, leb→le, eqb→eq, not-T}
 use lib.Pow.{pow-add, pow-pos}
-use lib.Ieee.{Float, nan, inf, fin, binary64, size, fits, toBits, ofBits, ofFields, odd, isNan}
+use lib.Ieee.{Float, nan, inf, fin, binary64, size, fits, toBits, ofBits, ofFields, odd}
 use lib.Ieee.Bits.{ofBits-fits, cond-no, is-false}
 use lib.Ieee.Digits.{size-le, size-reaches}
 use lib.Ieee.Exact.{HasValue, odd-sign}
@@ -160,10 +160,3 @@ made r k lo hi h =
         let p : 2 ^ suc k ≡ 2 ^ k * 2 = pow-suc 2 k in
         let q : r * 2 ^ k ≡ 2 ^ 53 * 2 ^ k = ap (λ (z : ℕ). z * 2 ^ k) e in
         omega arith
-
--- ---- a finite double is no NaN
-pub no-nan : (x : Float) → T (finite x) → T (not (isNan x))
-unfolding isNan
-no-nan nan i = absurd i
-no-nan (inf s) i = tt
-no-nan (fin s m e) i = tt

@@ -44,7 +44,7 @@ use lib.Ieee.Digits.{size-lt, size-le, size-reaches}
 use lib.Ieee.Scale.{finite}
 use Rattle.laws.specs.Order.{le-or-lt}
 use Rattle.float.specs.Value.{U, magUnits, isMinus, zero64}
-use Rattle.float.specs.Exact.{Exactly, Digits, digits, mag-lt, same-units, round-exactly, zero-fits}
+use Rattle.float.specs.Exact.{Exactly, Digits, digits, mag-lt, same-units, round-exactly, zero-fits, some-digits}
 use Rattle.root.specs.declared.Rooted.{Rooted}
 use Rattle.root.specs.Root.{NearestRoot, twiceOr, wholeRoot, nearer, rootTo, rootUnits, rootOf, rooted}
 
@@ -369,3 +369,14 @@ module _ (x : Float) (f : T (fits binary64 x)) (i : T (finite x)) (p : 0 < magUn
   unfolding rootOf rootUnits
   root-nearest =
       nearest-of x n (wholeRoot 53 n) K (sym cut) floor-is low-digits high-digits (rootOf x) (held (nearer (wholeRoot 53 n) n) K top K-le)
+
+-- ---- the answer is always a finite double
+pub rooted-finite : (x : Float) → T (fits binary64 x) → T (fits binary64 (rooted x .root)) × T (finite (rooted x .root))
+unfolding rooted
+rooted-finite nan f = (zero-fits, tt)
+rooted-finite (inf s) f = (zero-fits, tt)
+rooted-finite (fin s zero e) f = (f, tt)
+rooted-finite (fin true (suc m) e) f = (zero-fits, tt)
+rooted-finite (fin false (suc m) e) f =
+    let r = root-nearest (fin false (suc m) e) f tt (some-digits false m e) in
+    (r .fit, r .fin)

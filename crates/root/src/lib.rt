@@ -36,7 +36,9 @@ fn taken_apart(x: f64) -> Parts
     if e == 0 {
         Parts { m: t, k: 0 }
     } else {
-        Parts { m: t + LEAD, k: e - 1 }
+        let m = t + LEAD;
+        let k = e - 1;
+        Parts { m, k }
     }
 }
 
@@ -46,7 +48,9 @@ fn evened(p: Parts) -> Parts
     ensures { λ r. ⌜ Even (p .m) (p .k) (r .m) (r .k) ⌝ }
 {
     if p.k % 2 == 1 {
-        Parts { m: p.m * 2, k: p.k - 1 }
+        let m = p.m * 2;
+        let k = p.k - 1;
+        Parts { m, k }
     } else {
         p
     }

@@ -5,11 +5,11 @@ use Rattle.root.proofs.Loops.{even-odd}
 use Rattle.root.proofs.evened.Statement.{statement}
 use Rattle.root.proofs.evened.Tie as tie
 
-mul-t5 : tie.Need-mul-t5
-mul-t5 c = search needs
+mul-m : tie.Need-mul-m
+mul-m c = search needs
 
-sub-t6 : tie.Need-sub-t6
-sub-t6 c = search needs
+sub-k : tie.Need-sub-k
+sub-k c = search needs
 
 returns : tie.Need-returns
 returns c = let s = c .before .before .before .before in even-odd (s .args .p .m) (s .args .p .k) (s .pre) (omega arith)
@@ -18,4 +18,4 @@ returns-2 : tie.Need-returns-2
 returns-2 c = search needs
 
 pub evened-spec : {M : Type 1} → statement M
-evened-spec = tie.close (tie.spec mul-t5 sub-t6 returns returns-2)
+evened-spec = tie.close (tie.spec mul-m sub-k returns returns-2)

@@ -4,7 +4,8 @@ use native.Mathlib.Omega.{arith}
 use borrow.Author.Needs.{needs}
 use lib.Dec.{T}
 use lib.Ieee.{binary64, fits}
-use Rattle.root.proofs.Bits.{apart-low, apart-high, no-nan}
+use Rattle.float.specs.Exact.{no-nan}
+use Rattle.root.proofs.Bits.{apart-low, apart-high}
 use Rattle.root.proofs.taken_apart.Statement.{statement}
 use Rattle.root.proofs.taken_apart.Tie as tie
 
@@ -14,11 +15,11 @@ held c = subst T (sym (c .good .0 .1)) tt
 float-to-bits-b : tie.Need-float-to-bits-b
 float-to-bits-b c = no-nan (c .args .x) (c .pre .fin)
 
-add-t7 : tie.Need-add-t7
-add-t7 c = search needs
+add-m : tie.Need-add-m
+add-m c = search needs
 
-sub-t8 : tie.Need-sub-t8
-sub-t8 c = search needs
+sub-k : tie.Need-sub-k
+sub-k c = search needs
 
 returns : tie.Need-returns
 returns c = apart-low (c .before .args .x) (held (c .before)) (c .before .pre) (omega arith)
@@ -27,4 +28,4 @@ returns-2 : tie.Need-returns-2
 returns-2 c = apart-high (c .before .args .x) (held (c .before)) (c .before .pre) (omega (arith, c .if1 .left))
 
 pub taken-apart-spec : {M : Type 1} → statement M
-taken-apart-spec = tie.close (tie.spec float-to-bits-b add-t7 sub-t8 returns returns-2)
+taken-apart-spec = tie.close (tie.spec float-to-bits-b add-m sub-k returns returns-2)
