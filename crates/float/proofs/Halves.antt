@@ -3,15 +3,15 @@
 use mathlib.Core.Path.{_≡_, refl, sym, ap, _∙_, subst}
 use mathlib.Core.Bool.{Bool, true, false, cond, true≢false}
 use mathlib.Core.Logic.{inl, inr}
-use Prim.Native.Nat.{ℕ, zero, suc, _+_, _-_, _*_, _/_, _^_, _≤_, _<_, min, zero-le}
-use native.Mathlib.Nat.{le-refl, le-trans, lt-of-lt-of-le, lt-of-le-of-lt, one-mul, mul-le-mul-right, div-lt-iff-lt-mul, div-div-eq-div-mul, add-mul-div-right}
+use Prim.Native.Nat.{ℕ, zero, suc, _+_, _-_, _*_, _/_, _^_, _≤_, _<_, min}
+use native.Mathlib.Nat.{le-trans, lt-of-lt-of-le, lt-of-le-of-lt, one-mul, mul-le-mul-right, div-lt-iff-lt-mul, div-div-eq-div-mul, add-mul-div-right}
 use native.Mathlib.Omega.{arith}
 use lib.Dec.{T, lit≤}
-use lib.IntN.{ℤ, pos, negsuc, negℤ, _-ℤ_, +ℤ-idl}
+use lib.IntN.{ℤ, pos, negℤ, _-ℤ_, +ℤ-idl}
 use lib.Pow.{pow-pos}
 use lib.Signed.{mag}
 use lib.Ieee.{Float, nan, inf, fin, binary64, up, down, fits, add, toUnsigned, lt, le, eq, neg}
-use lib.Ieee.Fits.{down-pos, add-fits, neg-fits}
+use lib.Ieee.Fits.{down-pos, add-fits}
 use lib.Ieee.Nearest.{div-same}
 use lib.Ieee.Scale.{finite}
 use mir.Syntax.{w32}
@@ -33,7 +33,7 @@ whole-part (fin true m e) f i z h = ap (λ (k : ℕ). k / U) (sym z)
 whole-part (fin false m e) f i z h =
     let x = fin false m e in
     let q : m * up e / down e ≡ magUnits x / U =
-        div-same (m * up e) (down e) (magUnits x) U (down-pos e) (pow-pos 1074) (has-value x f tt .1) in
+    div-same (m * up e) (down e) (magUnits x) U (down-pos e) (pow-pos 1074) (has-value x f tt .1) in
     uncapped (m * up e / down e) (2 ^ 64) (subst (λ (k : ℕ). k < 2 ^ 64) (sym q) (div-lt-iff-lt-mul (pow-pos 1074) .1 h)) ∙ q
   where
     uncapped : (a c : ℕ) → a < c → min a (c - 1) ≡ a

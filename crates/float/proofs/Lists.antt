@@ -1,10 +1,10 @@
 -- The lists that the loops of `sum8` and `quotients` go through. Assumes nothing.
-use mathlib.Core.Path.{_≡_, sym, ap, subst, _∙_}
+use mathlib.Core.Path.{_≡_, sym, ap, _∙_}
 use mathlib.Core.List.{List}
 use Prim.Native.Nat.{ℕ, _+_, _≤_, _<_}
 use lib.ListN.{length, drop, getD, drop-of-length-le}
 use lib.Ieee.{Float, nan, binary64, add, div}
-use Rattle.laws.specs.Lists.{tab, filled, drop-next}
+use Rattle.laws.specs.Lists.{filled, drop-next}
 use Rattle.float.specs.Calls.{sumFrom, quotientsOf}
 use Rattle.float.specs.Arrays.{quotients-length, quotients-at}
 

@@ -1,7 +1,7 @@
 -- The absolute error of each operation. Its operands are near exact numbers, its result is below 2 ^ b in size, and it is near the exact
 -- result: the operands' errors go through, and the rounding adds halfUlp b. Assumes nothing.
 use mathlib.Core.Path.{_≡_, refl, sym, ap, ap₂, _∙_, subst}
-use mathlib.Core.Bool.{Bool, true, false, cond, not, _&&_}
+use mathlib.Core.Bool.{Bool, true, false, cond, not}
 use Prim.Native.Nat.{ℕ, zero, suc, _+_, _-_, _*_, _^_, _≤_, _<_}
 use native.Mathlib.Nat.{
   le-refl,
@@ -12,8 +12,6 @@ use native.Mathlib.Nat.{
   lt-of-le-of-lt,
   lt-irrefl,
   zero-lt-suc,
-  le-add-right,
-  sub-le,
   add-comm,
   add-mul,
   mul-add,
@@ -28,12 +26,10 @@ use native.Mathlib.Nat.{
   mul-le-mul-left,
   mul-le-mul-right,
   mul-lt-mul-of-pos-right,
-  lt-of-mul-lt-mul-right,
   le-of-mul-le-mul-right,
 }
 use native.Mathlib.Omega.{arith}
 use lib.Dec.{T, ltb, eqb, ltb→lt, nltb→le, eqb·suc-zero, lit≤}
-use lib.IntN.{ℤ, pos, negsuc}
 use lib.Pow.{pow-pos}
 use lib.Ieee.{Float, nan, inf, fin, binary64, up, down, unlike, fits, round, sum, add, sub, mul, div, neg}
 use lib.Ieee.Fits.{down-pos, up-pos}
@@ -42,7 +38,7 @@ use Rattle.laws.specs.Whole.{gap}
 use Rattle.float.specs.Value.{U, magUnits, isMinus, posUnits, negUnits, four64}
 use Rattle.float.specs.Exact.{has-value, no-digits, scaled, neg-exactly, mag-parts}
 use Rattle.float.specs.Error.{halfUlp, Rounded, round-units, rounded-cancel}
-use Rattle.float.specs.Near.{Near, near-more, near-parts, near-scale, near-neg, near-mag, mag-near, rounded-near, near-signed}
+use Rattle.float.specs.Near.{Near, near-more, near-parts, near-scale, near-neg, near-mag-plain, mag-near-plain, rounded-near, near-signed}
 
 -- ---- x + y
 -- ±a / c and ±b / c, which are x and y units, added
@@ -119,7 +115,7 @@ pub near-add : {c : ℕ} {x y : Float} {p n e q m f : ℕ} (b : ℕ) → Near c 
 near-add {c} {x} {y} {p} {n} {e} {q} {m} {f} b u w B h =
     let z = add binary64 x y in
     let r : Near c z ((posUnits x + posUnits y) * c) ((negUnits x + negUnits y) * c) (halfUlp b * c) =
-        near-scale c (add-near x y b (u .fit) (w .fit) (u .fin) (w .fin) B h) in
+    near-scale c (add-near x y b (u .fit) (w .fit) (u .fin) (w .fin) B h) in
     let i : (posUnits x + posUnits y) * c ≡ posUnits x * c + posUnits y * c = add-mul (posUnits x) (posUnits y) c in
     let j : (negUnits x + negUnits y) * c ≡ negUnits x * c + negUnits y * c = add-mul (negUnits x) (negUnits y) c in
     record { fit = r .fit; fin = r .fin; lo = omega arith; hi = omega arith }
@@ -200,8 +196,8 @@ div-fraction (fin s m e) (fin t (suc n) d) fx fy ix iy p =
       den = suc n * up d * down e;
       den-pos = mul-pos (mul-pos (zero-lt-suc n) (up-pos d)) (down-pos e);
       is =
-        ap (λ (q : Bool). cond q (cond (eqb m 0) nan (inf (unlike s t))) (round binary64 (unlike s t) (m * up e * down d) (suc n * up d * down e)))
-        (eqb·suc-zero n);
+          ap (λ (q : Bool). cond q (cond (eqb m 0) nan (inf (unlike s t))) (round binary64 (unlike s t) (m * up e * down d) (suc n * up d * down e)))
+          (eqb·suc-zero n);
       same = quotient (m * up e) (suc n * up d) U (magUnits x) (magUnits y) (down e) (down d) (has-value x fx tt .1) (has-value y fy tt .1);
     }
 
@@ -244,8 +240,8 @@ pub near-mul : {x y : Float} {p n e q m f : ℕ} (b : ℕ) → Near 1 x p n e �
 near-mul {x} {y} {p} {n} {e} {q} {m} {f} b u w B h =
     let z = mul binary64 x y in
     let r : Near U z (posUnits x * posUnits y + negUnits x * negUnits y) (posUnits x * negUnits y + negUnits x * posUnits y) (halfUlp b * U) =
-        near-parts (posUnits x * posUnits y + negUnits x * negUnits y) (posUnits x * negUnits y + negUnits x * posUnits y)
-        (rounded-near (mul-rounded x y b (u .fit) (w .fit) (u .fin) (w .fin) B h)) (signs (isMinus x) (isMinus y) (magUnits x) (magUnits y)) in
+    near-parts (posUnits x * posUnits y + negUnits x * negUnits y) (posUnits x * negUnits y + negUnits x * posUnits y)
+    (rounded-near (mul-rounded x y b (u .fit) (w .fit) (u .fin) (w .fin) B h)) (signs (isMinus x) (isMinus y) (magUnits x) (magUnits y)) in
     let x-hi : posUnits x + n ≤ p + negUnits x + e = omega (arith, u .hi) in
     let x-lo : p + negUnits x ≤ posUnits x + n + e = omega (arith, u .lo) in
     let y-hi : posUnits y + m ≤ q + negUnits y + f = omega (arith, w .hi) in
@@ -269,6 +265,7 @@ near-mul {x} {y} {p} {n} {e} {q} {m} {f} b u w B h =
   where
     lo-glue : (zp zn s d pq pm i j v w h : ℕ) → s + zn ≤ zp + d + h → d + pq ≤ s + pm + (j + w) → i ≡ j → w ≡ v → pq + zn ≤ zp + pm + (i + v + h)
     lo-glue zp zn s d pq pm i j v w h a b c k = omega arith
+
     hi-glue : (zp zn s d pq pm i j v h : ℕ) → zp + d ≤ s + zn + h → s + pm ≤ d + pq + (j + v) → i ≡ j → zp + pm ≤ pq + zn + (i + v + h)
     hi-glue zp zn s d pq pm i j v h a b c = omega arith
 
@@ -308,14 +305,15 @@ near-square {x} {p} {n} {e} b a B h =
     let d = gap p n in
     let g = magUnits x in
     let r : Rounded z (unlike (isMinus x) (isMinus x)) (g * g) U b = mul-rounded x x b (a .fit) (a .fit) (a .fin) (a .fin) B h in
-    let g-hi : g ≤ d + e = le-trans (le-of-eq (sym (mul-one g))) (near-mag a) in
-    let g-lo : d ≤ g + e = le-trans (mag-near a) (le-of-eq (ap (λ (t : ℕ). t + e) (mul-one g))) in
+    let g-hi : g ≤ d + e = near-mag-plain a in
+    let g-lo : d ≤ g + e = mag-near-plain a in
     near-signed false (r .fit) (r .fin) (r .sign ∙ same-sign (isMinus x))
     (over (magUnits z * U) (g * g) (d * d) (halfUlp b * U) (e * (d + d + e)) (r .hi) (sq-hi g d e g-hi))
     (under (d * d) (g * g) (magUnits z * U) (e * (d + d + e)) (halfUlp b * U) (sq-lo g d e g-hi g-lo) (r .lo))
   where
     over : (u v w s t : ℕ) → u ≤ v + s → v ≤ w + t → u ≤ w + (t + s)
     over u v w s t a b = omega arith
+
     under : (u v w s t : ℕ) → u ≤ v + s → v ≤ w + t → u ≤ w + (s + t)
     under u v w s t a b = omega arith
 
@@ -337,11 +335,11 @@ pub near-quarter : {x : Float} {p n e : ℕ} (b : ℕ) → Near 1 x p n e → b 
 near-quarter {x} {p} {n} {e} b u B h =
     let z = div binary64 x four64 in
     let f : Fraction z (unlike (isMinus x) false) (magUnits x * U) (4 * U) =
-        subst (Fraction z (unlike (isMinus x) false) (magUnits x * U)) four-units
-        (div-fraction x four64 (u .fit) four-fits (u .fin) tt (subst (λ (k : ℕ). 0 < k) (sym four-units) (lit≤ tt))) in
+    subst (Fraction z (unlike (isMinus x) false) (magUnits x * U)) four-units
+    (div-fraction x four64 (u .fit) four-fits (u .fin) tt (subst (λ (k : ℕ). 0 < k) (sym four-units) (lit≤ tt))) in
     let r : Rounded z (unlike (isMinus x) false) (magUnits x) 4 b =
-        rounded-cancel (magUnits x) 4 U (lit≤ tt) (pow-pos 1074)
-        (fraction-rounded b f B (lt-of-lt-of-le (mul-lt-mul-of-pos-right h (pow-pos 1074)) (le-of-eq (mul-assoc (2 ^ (b + 1074)) 4 U)))) in
+    rounded-cancel (magUnits x) 4 U (lit≤ tt) (pow-pos 1074)
+    (fraction-rounded b f B (lt-of-lt-of-le (mul-lt-mul-of-pos-right h (pow-pos 1074)) (le-of-eq (mul-assoc (2 ^ (b + 1074)) 4 U)))) in
     let s : Near 4 z (posUnits x) (negUnits x) (halfUlp b * 4) =
-        subst (λ (t : Bool). Near 4 z (cond t 0 (magUnits x)) (cond t (magUnits x) 0) (halfUlp b * 4)) (unlike-false (isMinus x)) (rounded-near r) in
+    subst (λ (t : Bool). Near 4 z (cond t 0 (magUnits x)) (cond t (magUnits x) 0) (halfUlp b * 4)) (unlike-false (isMinus x)) (rounded-near r) in
     record { fit = s .fit; fin = s .fin; lo = omega (arith, u, s); hi = omega (arith, u, s) }

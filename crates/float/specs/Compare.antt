@@ -20,7 +20,7 @@ use native.Mathlib.Nat.{
   eq-of-mul-eq-mul-right,
 }
 use native.Mathlib.Omega.{arith}
-use lib.Dec.{T, ltb, eqb, ltb→lt, lt→ltb, eqb→eq}
+use lib.Dec.{T, eqb, ltb→lt, lt→ltb, eqb→eq}
 use lib.IntN.{ℤ}
 use lib.Pow.{pow-pos}
 use lib.Ieee.{Float, nan, inf, fin, binary64, up, down, fits, lt, le, eq, below, level}
@@ -83,8 +83,10 @@ module _ (a b c x y : ℕ) (C : 0 < c) (p : a * U ≡ x * c) (q : b * U ≡ y * 
     where
       xy : x ≡ y
       xy = same-to-units a b c x y C p q (eqb→eq a b (and-left (eqb a b) (Bool·beq s t || eqb a 0) h))
+
       zero-is : T (eqb a 0) → x ≡ 0
       zero-is k = same-to-units a 0 c x 0 C p none (eqb→eq a 0 k)
+
       go : (s t : Bool) → T (Bool·beq s t || eqb a 0) → cond s 0 x + cond t y 0 ≡ cond t 0 y + cond s x 0
       go false false k = let e = xy in omega arith
       go true true k = let e = xy in omega arith
@@ -96,8 +98,10 @@ module _ (a b c x y : ℕ) (C : 0 < c) (p : a * U ≡ x * c) (q : b * U ≡ y * 
     where
       same : x ≡ y → T (eqb a b)
       same e = eq→eqb a b (same-of-units a b c x y C p q e)
+
       zero-is : x ≡ 0 → T (eqb a 0)
       zero-is e = eq→eqb a 0 (same-of-units a 0 c x 0 C p none e)
+
       go : (s t : Bool) → cond s 0 x + cond t y 0 ≡ cond t 0 y + cond s x 0 → T (level s a t b)
       go false false h = and-in (eqb a b) true (same (omega arith)) tt
       go true true h = and-in (eqb a b) true (same (omega arith)) tt

@@ -87,8 +87,8 @@ off n den b D h =
     let w : Within v n (den * 2 ^ k) = closest-within n (den * 2 ^ k) (mul-pos D (pow-pos k)) in
     let e : v * (den * 2 ^ k) ≡ v * 2 ^ k * den = ap (λ (x : ℕ). v * x) (mul-comm den (2 ^ k)) ∙ sym (mul-assoc v (2 ^ k) den) in
     let q : den * 2 ^ k ≤ halfUlp b * den * 2 =
-        le-trans (mul-le-mul-left den (place-le n den b D h))
-        (le-of-eq (mul-comm den (halfUlp b * 2) ∙ mul-right-comm (halfUlp b) 2 den)) in
+    le-trans (mul-le-mul-left den (place-le n den b D h))
+    (le-of-eq (mul-comm den (halfUlp b * 2) ∙ mul-right-comm (halfUlp b) 2 den)) in
     let both = halve (v * (den * 2 ^ k)) (v * 2 ^ k * den) (den * 2 ^ k) (halfUlp b * den) e (w .hi) (w .lo) q in
     record { hi = both .0; lo = both .1 }
   where
@@ -105,10 +105,13 @@ under g n den b o h B =
   where
     one : b + 1074 ≤ 2097
     one = omega arith
+
     other : b + 1020 ≤ 2097
     other = omega arith
+
     add2 : (x y z : ℕ) → x ≤ z → y ≤ z → x + y ≤ z * 2
     add2 x y z p q = omega arith
+
     top : 2 ^ (b + 1074) + halfUlp b ≤ 2 ^ 2098
     top = le-trans (add2 (2 ^ (b + 1074)) (halfUlp b) (2 ^ 2097) (pow-mono one) (pow-mono other)) (le-of-eq (sym (pow-suc 2 2097)))
 

@@ -27,7 +27,7 @@ use lib.Dec.{T, leb, ltb, eqb, leb→le, ltb→lt, lit≤}
 use lib.IntN.{ℤ, pos, negsuc, natAbs}
 use lib.Pow.{pow-add, pow-lt, pow-pos}
 use lib.Ieee.{Float, nan, inf, fin, binary64, up, down, size, unlike, fits, round, sum, add, mul, neg, ofInt, toBits, ofBits, top, isNan}
-use lib.Ieee.Fits.{down-pos, round-fits, neg-fits}
+use lib.Ieee.Fits.{down-pos, round-fits}
 use lib.Ieee.Bits.{ofBits-toBits}
 use lib.Ieee.Exact.{HasValue, round-exact}
 use lib.Ieee.Scale.{finite}
@@ -218,7 +218,7 @@ round-held : (s : Bool) (num den : ℕ) (x : Float) (k : ℕ) → T (fits binary
 round-held s num den x k f i D l e =
     let d = digits x f i in
     let is : magUnits x * 2 ^ k ≡ d .m * 2 ^ (d .j + k) =
-        ap (λ (z : ℕ). z * 2 ^ k) (d .mag) ∙ mul-assoc (d .m) (2 ^ d .j) (2 ^ k) ∙ ap (λ (z : ℕ). d .m * z) (sym (pow-add 2 (d .j) k)) in
+    ap (λ (z : ℕ). z * 2 ^ k) (d .mag) ∙ mul-assoc (d .m) (2 ^ d .j) (2 ^ k) ∙ ap (λ (z : ℕ). d .m * z) (sym (pow-add 2 (d .j) k)) in
     subst (λ (g : ℕ). Exactly (round binary64 s num den) s g) (sym is)
     (round-exactly s num den (d .m) (d .j + k) D (d .small) (subst (λ (g : ℕ). g < 2 ^ 2098) is l) (e ∙ ap (λ (g : ℕ). g * den) is))
 
@@ -295,7 +295,7 @@ mul-one-is (inf s) f i = absurd i
 mul-one-is (fin s m e) f i =
     let x = fin s m e in
     let r : Exactly (round binary64 (unlike s false) (m * up e * 1) (down e * 1)) (unlike s false) (magUnits x * 1) =
-        round-held (unlike s false) (m * up e * 1) (down e * 1) x 0 f i (mul-pos (down-pos e) (lit≤ tt))
-        (lt-of-le-of-lt (le-of-eq (mul-one (magUnits x))) (mag-lt x f i))
-        (ap (λ (z : ℕ). z * U) (mul-one (m * up e)) ∙ has-value x f tt .1 ∙ ap₂ (λ (a b : ℕ). a * b) (sym (mul-one (magUnits x))) (sym (mul-one (down e)))) in
+    round-held (unlike s false) (m * up e * 1) (down e * 1) x 0 f i (mul-pos (down-pos e) (lit≤ tt))
+    (lt-of-le-of-lt (le-of-eq (mul-one (magUnits x))) (mag-lt x f i))
+    (ap (λ (z : ℕ). z * U) (mul-one (m * up e)) ∙ has-value x f tt .1 ∙ ap₂ (λ (a b : ℕ). a * b) (sym (mul-one (magUnits x))) (sym (mul-one (down e)))) in
     same-units (mul binary64 x one64) x (r .fit) f (r .fin) tt (r .sign ∙ unlike-false s) (r .mag ∙ mul-one (magUnits x))

@@ -1,8 +1,8 @@
 -- THE MARGIN: of two points whose exact squared distances from the target differ by 2 ^ -20 or more, the sums of doubles are in that order.
 -- On the way the error of a sum from left to right, of one squared difference, and of a squared distance. Assumes nothing.
-use mathlib.Core.Path.{_≡_, refl, sym, ap, ap₂, _∙_, subst}
+use mathlib.Core.Path.{_≡_, sym, ap, ap₂, _∙_, subst}
 use mathlib.Core.List.{List, [], _∷_}
-use Prim.Native.Nat.{ℕ, zero, suc, _+_, _-_, _*_, _^_, _≤_, _<_, zero-le, suc-le-suc}
+use Prim.Native.Nat.{ℕ, suc, _+_, _*_, _^_, _≤_, _<_, zero-le, suc-le-suc}
 use native.Mathlib.Nat.{
   le-refl,
   le-trans,
@@ -12,13 +12,10 @@ use native.Mathlib.Nat.{
   lt-of-le-of-lt,
   add-zero,
   zero-add,
-  add-assoc,
   add-le-add,
   add-lt-add-of-le-of-lt,
   add-mul,
   suc-mul,
-  one-mul,
-  mul-one,
   zero-mul,
   mul-le-mul,
   mul-le-mul-left,
@@ -37,7 +34,7 @@ use Rattle.float.specs.Calls.{sumFrom}
 use Rattle.float.specs.Distance.{coordGap, sqDist, margin, sqDiff, sqTerms, floatDist}
 use Rattle.float.specs.Exact.{mag-parts, IsWhole, ofInt-whole}
 use Rattle.float.specs.Error.{halfUlp}
-use Rattle.float.specs.Near.{Near, near-self, near-zero, near-more, near-parts, near-mag, near-lt}
+use Rattle.float.specs.Near.{Near, near-self, near-zero, near-more, near-parts, near-mag, near-mag-plain, near-lt}
 use Rattle.float.specs.Arithmetic.{near-add, near-sub, near-square}
 
 -- ---- a sum from left to right: each term adds its error and that of one addition
@@ -56,19 +53,22 @@ near-sum c f acc (x ∷ xs) {i} {j} {e} b B (more {q = q} {m = m} {p = p} {n = n
     let w = f + halfUlp b * c in
     let l = length xs in
     let room : magUnits acc + magUnits x < 2 ^ (b + 1074) =
-        lt-of-mul-lt-mul-right c
-        (lt-of-le-of-lt (le-of-eq (add-mul (magUnits acc) (magUnits x) c))
-        (now (magUnits acc * c) (magUnits x * c) q m p n (halfUlp b * c) (l * w) (suc l * w) (2 ^ (b + 1074) * c) (near-mag a) (near-mag k) (suc-mul l w) h)) in
+    lt-of-mul-lt-mul-right c
+    (lt-of-le-of-lt (le-of-eq (add-mul (magUnits acc) (magUnits x) c))
+    (now (magUnits acc * c) (magUnits x * c) q m p n (halfUlp b * c) (l * w) (suc l * w) (2 ^ (b + 1074) * c) (near-mag a) (near-mag k) (suc-mul l w) h)) in
     let a' : Near c (add binary64 acc x) (i + q) (j + m) (e + f + halfUlp b * c) = near-add b a k B room in
     let r = near-sum c f (add binary64 acc x) xs b B t a' (later q m p n (halfUlp b * c) (l * w) (suc l * w) (2 ^ (b + 1074) * c) (suc-mul l w) h) in
     near-more (e + suc l * w) (near-parts (i + (q + p)) (j + (m + n)) r (regroup q m p n)) (le-of-eq (errors (halfUlp b * c) (l * w) (suc l * w) (suc-mul l w)))
   where
     now : (u v q m p n g s s' t : ℕ) → u ≤ gap i j + e → v ≤ gap q m + f → s' ≡ s + (f + g) → i + j + e + (q + p + (m + n)) + s' < t → u + v < t
     now u v q m p n g s s' t x y z h = omega arith
+
     later : (q m p n g s s' t : ℕ) → s' ≡ s + (f + g) → i + j + e + (q + p + (m + n)) + s' < t → i + q + (j + m) + (e + f + g) + (p + n) + s < t
     later q m p n g s s' t z h = omega arith
+
     errors : (g s s' : ℕ) → s' ≡ s + (f + g) → e + f + g + s ≡ e + s'
     errors g s s' z = omega arith
+
     regroup : (q m p n : ℕ) → i + q + p + (j + (m + n)) ≡ i + (q + p) + (j + m + n)
     regroup q m p n = omega arith
 
@@ -89,11 +89,11 @@ near-sqDiff v t fv ft iv it h =
     let n : Near 1 d (posUnits v + negUnits t) (negUnits v + posUnits t) (2 ^ 1026) = near-sub 6 (near-self v fv iv) (near-self t ft it) (lit≤ tt) h in
     let small : apart v t ≤ 2 ^ 1080 = le-trans (apart-le v t) (le-of-lt h) in
     let g : magUnits d ≤ 2 ^ 1080 + 2 ^ 1026 =
-        le-trans (le-of-eq (sym (mul-one (magUnits d)))) (le-trans (near-mag n) (add-le-add small (le-refl (2 ^ 1026)))) in
+    le-trans (near-mag-plain n) (add-le-add small (le-refl (2 ^ 1026))) in
     let top : (2 ^ 1080 + 2 ^ 1026) * (2 ^ 1080 + 2 ^ 1026) < 2 ^ 1088 * U = lit≤ tt in
     let r = near-square 14 n (lit≤ tt) (lt-of-le-of-lt (mul-le-mul g g) top) in
     let e : 2 ^ 1026 * (apart v t + apart v t + 2 ^ 1026) ≤ 2 ^ 1026 * (2 ^ 1080 + 2 ^ 1080 + 2 ^ 1026) =
-        mul-le-mul-left (2 ^ 1026) (add-le-add (add-le-add small small) (le-refl (2 ^ 1026))) in
+    mul-le-mul-left (2 ^ 1026) (add-le-add (add-le-add small small) (le-refl (2 ^ 1026))) in
     let all : 2 ^ 1026 * (2 ^ 1080 + 2 ^ 1080 + 2 ^ 1026) + halfUlp 14 * U ≤ 2 ^ 2110 = lit≤ tt in
     near-more (2 ^ 2110) r (le-trans (add-le-add e (le-refl (halfUlp 14 * U))) all)
 
@@ -181,6 +181,7 @@ near-dist ys ts n a =
   where
     room : (s a b c : ℕ) → s ≤ b → a ≤ c → 0 + 0 + 0 + (s + 0) + a ≤ b + c
     room s a b c h k = omega arith
+
     plain : (s : ℕ) → 0 + s + 0 ≡ s + (0 + 0)
     plain s = omega arith
 

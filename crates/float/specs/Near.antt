@@ -4,8 +4,8 @@
 -- (A step over U is a law on variables: `omega` takes no number of more than 38 digits.) Assumes nothing.
 use mathlib.Core.Path.{_≡_, refl, sym, ap, _∙_, subst}
 use mathlib.Core.Bool.{Bool, true, false, cond}
-use Prim.Native.Nat.{ℕ, zero, suc, _+_, _-_, _*_, _≤_, _<_}
-use native.Mathlib.Nat.{le-trans, le-of-eq, lt-of-lt-of-le, lt-of-le-of-lt, add-mul, mul-le-mul-right, lt-of-mul-lt-mul-right, zero-mul}
+use Prim.Native.Nat.{ℕ, zero, suc, _+_, _*_, _≤_, _<_}
+use native.Mathlib.Nat.{le-trans, le-of-eq, lt-of-lt-of-le, lt-of-le-of-lt, add-mul, mul-le-mul-right, lt-of-mul-lt-mul-right, mul-one, zero-mul}
 use native.Mathlib.Omega.{arith}
 use lib.Dec.{T}
 use lib.IntN.{pos, negsuc}
@@ -34,6 +34,7 @@ near-signed {c} {x} {v} {e} s f i sign hi lo =
   where
     Both : Bool → Bool → ℕ → Type 0
     Both t s g = (cond s 0 v + cond t g 0 * c ≤ cond t 0 g * c + cond s v 0 + e) × (cond t 0 g * c + cond s v 0 ≤ cond s 0 v + cond t g 0 * c + e)
+
     go : (s : Bool) (g : ℕ) → g * c ≤ v + e → v ≤ g * c + e → Both s s g
     go false g h l = let z : 0 * c ≡ 0 = zero-mul c in (omega arith, omega arith)
     go true g h l = let z : 0 * c ≡ 0 = zero-mul c in (omega arith, omega arith)
@@ -71,6 +72,7 @@ near-parts {c} {x} {p} {n} {e} q m a h =
   where
     lo : (u v : ℕ) → p + v ≤ u + n + e → q + v ≤ u + m + e
     lo u v k = omega arith
+
     hi : (u v : ℕ) → u + n ≤ p + v + e → u + m ≤ q + v + e
     hi u v k = omega arith
 
@@ -86,8 +88,10 @@ near-scale {x} {p} {n} {e} k a =
   where
     lo : (p m q n : ℕ) → p + m * 1 ≤ q * 1 + n + e → p + m ≤ q + n + e
     lo p m q n h = omega arith
+
     hi : (q n p m : ℕ) → q * 1 + n ≤ p + m * 1 + e → q + n ≤ p + m + e
     hi q n p m h = omega arith
+
     times : (a b c d : ℕ) → a + b ≤ c + d + e → a * k + b * k ≤ c * k + d * k + e * k
     times a b c d h =
         le-trans (le-of-eq (sym (add-mul a b k)))
@@ -123,8 +127,12 @@ mags {c} {x} {p} {n} {e} a = go (isMinus x) (magUnits x) (a .lo) (a .hi)
 pub near-mag : {c : ℕ} {x : Float} {p n e : ℕ} → Near c x p n e → magUnits x * c ≤ gap p n + e
 near-mag a = mags a .0
 
-pub mag-near : {c : ℕ} {x : Float} {p n e : ℕ} → Near c x p n e → gap p n ≤ magUnits x * c + e
-mag-near a = mags a .1
+-- the same of a plain value, where the scale is 1, and the other way round
+pub near-mag-plain : {x : Float} {p n e : ℕ} → Near 1 x p n e → magUnits x ≤ gap p n + e
+near-mag-plain {x} a = le-trans (le-of-eq (sym (mul-one (magUnits x)))) (near-mag a)
+
+pub mag-near-plain : {x : Float} {p n e : ℕ} → Near 1 x p n e → gap p n ≤ magUnits x + e
+mag-near-plain {x} {e = e} a = le-trans (mags a .1) (le-of-eq (ap (λ (g : ℕ). g + e) (mul-one (magUnits x))))
 
 -- ---- |x|
 pub abs-exactly : (x : Float) → T (fits binary64 x) → T (finite x) → Exactly (absOf x) false (magUnits x)

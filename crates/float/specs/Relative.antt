@@ -87,6 +87,7 @@ part-rescale g n den v w D e p = (
     left : g * w * 2 ^ 53 * den ≡ g * den * 2 ^ 53 * w
     left =
         mul-right-comm (g * w) (2 ^ 53) den ∙ ap (λ (z : ℕ). z * 2 ^ 53) (mul-right-comm g w den) ∙ mul-right-comm (g * den) w (2 ^ 53)
+
     right : n * w * 2 ^ 53 + n * w ≡ (v * 2 ^ 53 + v) * den
     right =
         ap (λ (z : ℕ). z * 2 ^ 53 + z) e ∙ ap (λ (z : ℕ). z + v * den) (mul-right-comm v den (2 ^ 53)) ∙ sym (add-mul (v * 2 ^ 53) v den)

@@ -5,11 +5,9 @@ use mathlib.Core.Bool.{Bool, true, false, cond}
 use mathlib.Core.Logic.{_⊎_, inl, inr}
 use Prim.Native.Nat.{ℕ, zero, suc, _+_, _*_, _/_, _%_, _^_, _≤_, _<_}
 use native.Mathlib.Nat.{
-  le-refl,
   le-trans,
   le-of-eq,
   le-of-lt,
-  lt-of-le-of-lt,
   le-of-suc-le-suc,
   lt-of-mul-lt-mul-right,
   le-add-right,
@@ -29,7 +27,7 @@ use native.Mathlib.Nat.{
 }
 use native.Mathlib.Omega.{arith}
 use lib.Dec.{T, lit≤}
-use lib.IntN.{ℤ, pos, negsuc, negℤ, natAbs}
+use lib.IntN.{pos, negℤ, natAbs}
 use lib.Pow.{pow-pos}
 use lib.Ieee.{Float, nan, inf, fin, binary64, fits, sub, div, lt}
 use lib.Ieee.Fits.{cond-fits}
@@ -39,7 +37,6 @@ use Rattle.laws.specs.Order.{le-or-lt}
 use Rattle.laws.specs.Whole.{posPart, negPart, gap}
 use Rattle.float.specs.Value.{U, magUnits, isMinus, posUnits, negUnits, four64}
 use Rattle.float.specs.Calls.{absOf, halfUp, roundAway, million64, minusMillion64, clamped, rounded}
-use Rattle.float.specs.Exact.{mag-parts}
 use Rattle.float.specs.Compare.{lt-is, not-lt-is}
 use Rattle.float.specs.Near.{Near, near-self, near-more, near-scale, near-abs}
 use Rattle.float.specs.Arithmetic.{near-sub, near-quarter}
@@ -135,6 +132,7 @@ clamped-range (fin s m e) f = go (lt z minusMillion64) (lt million64 z) refl ref
   where
     z : Float
     z = fin s m e
+
     go : (a b : Bool) → lt z minusMillion64 ≡ a → lt million64 z ≡ b → Ranged (cond a minusMillion64 (cond b million64 z))
     go true b p q = inr (tt, le-of-eq minus-mag)
     go false true p q = inr (tt, le-of-eq million-mag)
@@ -154,11 +152,14 @@ clamped-small z f i h =
     low : (s : Bool) (g n k : ℕ) → n ≡ k → g ≤ k → cond s 0 g + n < 0 + cond s g 0 → ⊥
     low false g n k e h l = omega arith
     low true g n k e h l = omega arith
+
     high : (s : Bool) (g n k : ℕ) → n ≡ k → g ≤ k → n + cond s g 0 < cond s 0 g + 0 → ⊥
     high false g n k e h l = omega arith
     high true g n k e h l = omega arith
+
     below : T (lt z minusMillion64) → ⊥
     below t = low (isMinus z) (magUnits z) (magUnits minusMillion64) (1000000 * U) minus-mag h (lt-is z minusMillion64 f minus-fits i tt t)
+
     above : T (lt million64 z) → ⊥
     above t = high (isMinus z) (magUnits z) (magUnits million64) (1000000 * U) million-mag h (lt-is million64 z million-fits f tt i t)
 
@@ -185,6 +186,7 @@ rounded-le z f = elim (clamped-range z f) [ inl e ↦ subst (λ (c : Float). nat
   where
     none : natAbs (roundAway nan) ≤ 1000000
     none = unfold roundAway halfUp magUnits in lit≤ tt
+
     size : (c : Float) → magUnits c ≤ 1000000 * U → natAbs (roundAway c) ≤ 1000000
     size c h = le-trans (le-of-eq (round-abs c)) (halfUp-le c h)
 
@@ -231,8 +233,8 @@ pub near-regret : (t o k : Float) → T (fits binary64 t) → T (fits binary64 o
     (gap (posUnits t + negUnits o + negUnits k * 4) (negUnits t + posUnits o + posUnits k * 4)) 0 (2 ^ 1030)
 near-regret t o k ft fo fk it io ik h1 h2 h3 =
     let a : Near 1 (sub binary64 t o) (posUnits t + negUnits o) (negUnits t + posUnits o) (2 ^ 1026) =
-        near-sub 6 (near-self t ft it) (near-self o fo io) (lit≤ tt) h1 in
+    near-sub 6 (near-self t ft it) (near-self o fo io) (lit≤ tt) h1 in
     let z : Near 4 (div binary64 (sub binary64 t o) four64) (posUnits t + negUnits o) (negUnits t + posUnits o) (2 ^ 1026 + 2 ^ 1026 * 4) =
-        near-quarter 6 a (lit≤ tt) h2 in
+    near-quarter 6 a (lit≤ tt) h2 in
     let d = near-sub 6 z (near-scale 4 (near-self k fk ik)) (lit≤ tt) h3 in
     near-abs (near-more (2 ^ 1030) d (lit≤ tt))

@@ -1,7 +1,7 @@
 -- The exact value of a double. A finite double is a whole number of units of 2 ^ -1074, the least positive double: so many units, with a sign.
 -- Which doubles are finite is said by `finite` of lib.Ieee.Scale. Definitions only.
 use Prim.Native.Nat.{ℕ, suc, _+_, _-_, _*_, _^_}
-use mathlib.Core.Bool.{Bool, true, false, cond}
+use mathlib.Core.Bool.{Bool, false, cond}
 use lib.IntN.{pos, negsuc}
 use lib.Ieee.{Float, nan, inf, fin}
 

@@ -1,5 +1,5 @@
 -- A double's bits and its units, both ways: the field of the exponent says how many places the digits are moved. Assumes nothing.
-use mathlib.Core.Path.{_≡_, refl, sym, ap, _∙_, subst}
+use mathlib.Core.Path.{_≡_, sym, ap, _∙_, subst}
 use mathlib.Core.Bool.{Bool, false, cond, not}
 use mathlib.Core.Logic.{_⊎_, inl, inr}
 use Prim.Native.Nat.{ℕ, suc, _+_, _-_, _*_, _/_, _%_, _^_, _≤_, _<_}
@@ -27,9 +27,8 @@ use lib.Ieee.Bits.{ofBits-fits, cond-no, is-false}
 use lib.Ieee.Digits.{size-le, size-reaches}
 use lib.Ieee.Exact.{HasValue, odd-sign}
 use lib.Ieee.Fits.{kept-lt}
-use lib.Ieee.Scale.{finite}
-use Rattle.float.specs.Value.{U, magUnits, isMinus}
-use Rattle.float.specs.Exact.{Exactly, exactly, Digits, digits, mag-lt, bitsOf, bits-are}
+use Rattle.float.specs.Value.{U, magUnits}
+use Rattle.float.specs.Exact.{Exactly, exactly, digits, mag-lt, bitsOf, bits-are}
 use Rattle.root.specs.Steps.{Above, Apart}
 
 -- ---- from bits to units
@@ -49,12 +48,12 @@ exact-cut : (g m j : ℕ) → g ≡ m * 2 ^ j → m < 2 ^ 53 → g / 2 ^ dropped
 exact-cut g m j e h =
     let k = dropped g in
     let k-le : k ≤ j =
-        spare (size g)
-        (size-le g (53 + j)
-        (subst (λ (z : ℕ). z < 2 ^ (53 + j)) (sym e) (lt-of-lt-of-le (mul-lt-mul-of-pos-right h (pow-pos j)) (le-of-eq (sym (pow-add 2 53 j)))))) in
+    spare (size g)
+    (size-le g (53 + j)
+    (subst (λ (z : ℕ). z < 2 ^ (53 + j)) (sym e) (lt-of-lt-of-le (mul-lt-mul-of-pos-right h (pow-pos j)) (le-of-eq (sym (pow-add 2 53 j)))))) in
     let r = m * 2 ^ (j - k) in
     let g-is : g ≡ r * 2 ^ k =
-        e ∙ ap (λ (z : ℕ). m * 2 ^ z) (sym (sub-add-cancel k-le)) ∙ ap (λ (z : ℕ). m * z) (pow-add 2 (j - k) k) ∙ sym (mul-assoc m (2 ^ (j - k)) (2 ^ k)) in
+    e ∙ ap (λ (z : ℕ). m * 2 ^ z) (sym (sub-add-cancel k-le)) ∙ ap (λ (z : ℕ). m * z) (pow-add 2 (j - k) k) ∙ sym (mul-assoc m (2 ^ (j - k)) (2 ^ k)) in
     ap (λ (z : ℕ). z / 2 ^ k * 2 ^ k) g-is ∙ ap (λ (z : ℕ). z * 2 ^ k) (mul-div-cancel r (pow-pos k)) ∙ sym g-is
   where
     spare : (z : ℕ) → z ≤ 53 + j → z - 53 ≤ j
@@ -134,7 +133,7 @@ unfolding ofBits
 bits-value b e t p q h =
     let small : b < 2 ^ 63 = omega arith in
     let s-is : leb (2 ^ 63) b ≡ false =
-        is-false (leb (2 ^ 63) b) (not-T (leb (2 ^ 63) b) (λ (w : T (leb (2 ^ 63) b)). not-le-of-lt small (leb→le (2 ^ 63) b w))) in
+    is-false (leb (2 ^ 63) b) (not-T (leb (2 ^ 63) b) (λ (w : T (leb (2 ^ 63) b)). not-le-of-lt small (leb→le (2 ^ 63) b w))) in
     let f-is : b % 2 ^ 63 / 2 ^ 52 ≡ suc e = omega arith in
     let t-is : b % 2 ^ 52 ≡ t = omega arith in
     subst (λ (s : Bool). HasValue (ofFields binary64 s (b % 2 ^ 63 / 2 ^ 52) (b % 2 ^ 52)) false ((2 ^ 52 + t) * 2 ^ e) U) (sym s-is)
@@ -155,6 +154,7 @@ made r k lo hi h =
   where
     whole : (r : ℕ) → 2 ^ 52 ≤ r → 2 ^ 52 + (r - 2 ^ 52) ≡ r
     whole r h = omega arith
+
     carry : r ≡ 2 ^ 53 → (2 ^ 52 + 0) * 2 ^ suc k ≡ r * 2 ^ k
     carry e =
         let p : 2 ^ suc k ≡ 2 ^ k * 2 = pow-suc 2 k in

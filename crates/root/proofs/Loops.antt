@@ -1,6 +1,5 @@
 -- The loops: the factor that raises the radicand, and the root digit by digit. Assumes nothing.
-use mathlib.Core.Path.{_≡_, refl, sym, ap, _∙_, subst}
-use mathlib.Core.Logic.{_≢_}
+use mathlib.Core.Path.{_≡_, sym, ap, _∙_, subst}
 use Prim.Native.Nat.{ℕ, _+_, _-_, _*_, _/_, _%_, _^_, _≤_, _<_, zero-le}
 use native.Mathlib.Nat.{
   lt-of-lt-of-le,
@@ -43,7 +42,7 @@ raising-start m p h = record { is = sym (mul-one m); h-le = zero-le; hi = h; gro
 pub raising-next : (m n h : ℕ) → Raising m n h → n < 2 ^ 52 → Raising m (n * 4) (h + 1)
 raising-next m n h r l =
     let g : h < 26 =
-        lt-of-not-le (λ (k : 26 ≤ h). not-le-of-lt (lt-of-le-of-lt (r .grown) l) (mul-le-mul (pow-mono k) (pow-mono k))) in
+    lt-of-not-le (λ (k : 26 ≤ h). not-le-of-lt (lt-of-le-of-lt (r .grown) l) (mul-le-mul (pow-mono k) (pow-mono k))) in
     record {
       is = ap (λ (z : ℕ). z * 4) (r .is) ∙ mul-assoc m (2 ^ h * 2 ^ h) 4 ∙ ap (λ (z : ℕ). m * z) (sym step);
       h-le = omega arith;
@@ -78,5 +77,5 @@ pub upto-end : {m left root rem : ℕ} (i : ℕ) → Upto m left i root rem → 
 upto-end {m} {left} {root} {rem} i u h =
     let e : i ≡ 53 = omega (arith, u .at) in
     let s : (root * root + rem) * 2 ^ 54 + left ≡ m * 4 ^ 53 =
-        subst (λ (k : ℕ). (root * root + rem) * 2 ^ 54 + left ≡ m * 4 ^ k) e (u .sum) in
+    subst (λ (k : ℕ). (root * root + rem) * 2 ^ 54 + left ≡ m * 4 ^ k) e (u .sum) in
     record { sum = omega (arith, s, u .left-lt); low = u .low }

@@ -2,17 +2,17 @@
 use mathlib.Core.Path.{_≡_, refl, sym, ap, _∙_, subst}
 use mathlib.Core.Bool.{Bool, true, false, cond, not, true≢false}
 use mathlib.Core.Logic.{inl, inr}
-use Prim.Native.Nat.{ℕ, zero, suc, _+_, _-_, _*_, _/_, _%_, _^_, _≤_, _<_}
+use Prim.Native.Nat.{ℕ, zero, suc, _+_, _-_, _*_, _/_, _^_, _≤_, _<_}
 use native.Mathlib.Nat.{lt-irrefl, zero-lt-suc, add-mul, mul-add, mul-assoc, mul-comm, mul-left-comm, zero-mul}
 use native.Mathlib.Omega.{arith}
 use borrow.Author.Tests.{lt-ltb, le-ltb}
-use lib.Dec.{T, ltb}
+use lib.Dec.{T}
 use lib.Pow.{pow-add}
-use lib.Ieee.{Float, nan, inf, fin, binary64, fits, eq, lt, ofBits, nanBits, isNan}
+use lib.Ieee.{Float, nan, inf, fin, binary64, fits, eq, lt, ofBits, nanBits}
 use lib.Ieee.Bits.{nanBits-is}
 use lib.Ieee.Scale.{finite}
 use Rattle.laws.specs.Tests.{true-is}
-use Rattle.float.specs.Value.{U, magUnits, isMinus, zero64}
+use Rattle.float.specs.Value.{U, magUnits, zero64}
 use Rattle.float.specs.Exact.{Exactly, no-nan, no-digits, some-digits, zero-fits, zero-mag}
 use Rattle.float.specs.Compare.{is-lt, zero-lt, eq-zero, zero-eq}
 use Rattle.root.specs.Root.{NearestRoot, nearer, rootOf, rooted, noRoot}
@@ -45,6 +45,7 @@ radicand m c h k e =
   where
     spread : (m a b d : ℕ) → m * (a * a) * (b * b * d) ≡ m * (a * b * (a * b) * d)
     spread m a b d = simp (mul-assoc, mul-comm, mul-left-comm)
+
     gather : (m a b d : ℕ) → m * (a * b * (a * b) * d) ≡ m * (a * a) * d * (b * b)
     gather m a b d = simp (mul-assoc, mul-comm, mul-left-comm)
 
@@ -89,6 +90,7 @@ module _ {x : Float} {m k m' k' n h root rem r : ℕ} (p : Apart x m k) (e : Eve
     where
       halves : k' ≡ k' / 2 + k' / 2
       halves = omega (arith, e .even)
+
       levels : h + (k' / 2 + 511 - h) ≡ k' / 2 + 511
       levels = omega (arith, g .h-le)
 

@@ -1,10 +1,10 @@
 -- Worked examples, computed. Assumes nothing.
 use mathlib.Core.Path.{_≡_, refl}
-use mathlib.Core.Bool.{true, false}
+use mathlib.Core.Bool.{true}
 use lib.IntN.{pos}
-use lib.Ieee.{nan, inf, fin, binary64, ofBits, round, size}
+use lib.Ieee.{fin, binary64, ofBits, round, size}
 use Rattle.float.specs.Value.{magUnits, zero64}
-use Rattle.root.specs.Root.{wholeRoot, rootUnits, rootOf, rooted, noRoot}
+use Rattle.root.specs.Root.{wholeRoot, rootUnits, rootOf, rooted}
 
 -- 4.0 has the root 2.0; 2.0 has 1.4142135623730951; the least double, 2 ^ -1074, has 2 ^ -537
 root-four : rooted (ofBits binary64 0x4010_0000_0000_0000) ≡ record { number = 0; root = ofBits binary64 0x4000_0000_0000_0000 }

@@ -2,9 +2,8 @@
 use mathlib.Core.Path.{_≡_, refl, sym, ap, ap₂, _∙_, subst}
 use mathlib.Core.Bool.{Bool, true, false, cond, not}
 use mathlib.Core.Logic.{inl, inr}
-use Prim.Native.Nat.{ℕ, zero, suc, _+_, _-_, _*_, _/_, _%_, _^_, _≤_, _<_, zero-le}
+use Prim.Native.Nat.{ℕ, zero, suc, _+_, _-_, _*_, _/_, _^_, _≤_, _<_, zero-le}
 use native.Mathlib.Nat.{
-  le-refl,
   le-trans,
   le-of-eq,
   le-of-lt,
@@ -43,10 +42,9 @@ use lib.Ieee.{Float, nan, inf, fin, binary64, fits, size, round}
 use lib.Ieee.Digits.{size-lt, size-le, size-reaches}
 use lib.Ieee.Scale.{finite}
 use Rattle.laws.specs.Order.{le-or-lt}
-use Rattle.float.specs.Value.{U, magUnits, isMinus, zero64}
+use Rattle.float.specs.Value.{U, magUnits}
 use Rattle.float.specs.Exact.{Exactly, Digits, digits, mag-lt, same-units, round-exactly, zero-fits, some-digits}
-use Rattle.root.specs.declared.Rooted.{Rooted}
-use Rattle.root.specs.Root.{NearestRoot, twiceOr, wholeRoot, nearer, rootTo, rootUnits, rootOf, rooted}
+use Rattle.root.specs.Root.{NearestRoot, twiceOr, wholeRoot, nearer, rootUnits, rootOf, rooted}
 
 -- ---- no second double is the nearest
 not-less : (x r q : Float) → NearestRoot x r → NearestRoot x q → magUnits r < magUnits q → ⊥
@@ -220,11 +218,11 @@ module _ (x r : Float) (n R K : ℕ) (eq : magUnits x * U ≡ n * (2 ^ K * 2 ^ K
   above y f i l =
       let d = digits y f i in
       let l' : R * 2 ^ K < d .m * 2 ^ d .j =
-          subst (λ (z : ℕ). z < d .m * 2 ^ d .j) (made .mag) (subst (λ (z : ℕ). magUnits r < z) (d .mag) l) in
+      subst (λ (z : ℕ). z < d .m * 2 ^ d .j) (made .mag) (subst (λ (z : ℕ). magUnits r < z) (d .mag) l) in
       let g : (R + 1) * 2 ^ K ≤ magUnits y =
-          subst (λ (z : ℕ). (R + 1) * 2 ^ K ≤ z) (sym (d .mag)) (next-above (d .m) (d .j) R K (d .small) full l') in
+      subst (λ (z : ℕ). (R + 1) * 2 ^ K ≤ z) (sym (d .mag)) (next-above (d .m) (d .j) R K (d .small) full l') in
       let s : (R + 1 + R) * 2 ^ K ≤ magUnits y + magUnits r =
-          le-trans (le-of-eq (add-mul (R + 1) R (2 ^ K))) (add-le-add g (le-of-eq (sym (made .mag)))) in
+      le-trans (le-of-eq (add-mul (R + 1) R (2 ^ K))) (add-le-add g (le-of-eq (sym (made .mag)))) in
       subst (λ (z : ℕ). 4 * z < (magUnits y + magUnits r) * (magUnits y + magUnits r)) (sym eq)
       (sq-above (magUnits y + magUnits r) (R + 1 + R) n (2 ^ K) (pow-pos K) s (odd-up c))
 
@@ -233,9 +231,9 @@ module _ (x r : Float) (n R K : ℕ) (eq : magUnits x * U ≡ n * (2 ^ K * 2 ^ K
   lower-sum y f i l t =
       let d = digits y f i in
       let l' : d .m * 2 ^ d .j < R * 2 ^ K =
-          subst (λ (z : ℕ). d .m * 2 ^ d .j < z) (made .mag) (subst (λ (z : ℕ). z < magUnits r) (d .mag) l) in
+      subst (λ (z : ℕ). d .m * 2 ^ d .j < z) (made .mag) (subst (λ (z : ℕ). z < magUnits r) (d .mag) l) in
       let g : magUnits y ≤ (R - 1) * 2 ^ K =
-          subst (λ (z : ℕ). z ≤ (R - 1) * 2 ^ K) (sym (d .mag)) (next-below (d .m) (d .j) R K (d .small) t l') in
+      subst (λ (z : ℕ). z ≤ (R - 1) * 2 ^ K) (sym (d .mag)) (next-below (d .m) (d .j) R K (d .small) t l') in
       le-trans (add-le-add g (le-of-eq (made .mag))) (le-of-eq (sym (add-mul (R - 1) R (2 ^ K))))
 
   -- at R = 2 ^ 52 the doubles below r lie closer, but there n is the square of R at least
@@ -246,17 +244,20 @@ module _ (x r : Float) (n R K : ℕ) (eq : magUnits x * U ≡ n * (2 ^ K * 2 ^ K
       (elim (eq-or-lt-of-le full) [
         | inl e ↦
             let q : magUnits y + magUnits r < (R + R) * 2 ^ K =
-                lt-of-lt-of-le (sum-lt (magUnits y) (magUnits r) l) (le-of-eq (ap (λ (z : ℕ). z + z) (made .mag) ∙ sym (add-mul R R (2 ^ K)))) in
+            lt-of-lt-of-le (sum-lt (magUnits y) (magUnits r) l) (le-of-eq (ap (λ (z : ℕ). z + z) (made .mag) ∙ sym (add-mul R R (2 ^ K)))) in
             sq-below' (magUnits y + magUnits r) (R + R) n (2 ^ K) q (subst (λ (z : ℕ). (z + z) * (z + z) ≤ 4 * n) e (small n big))
         | inr t ↦ sq-below (magUnits y + magUnits r) (R - 1 + R) n (2 ^ K) (pow-pos K) (lower-sum y f i l t) (down1 t)
       ])
     where
       sum-lt : (a b : ℕ) → a < b → a + b < b + b
       sum-lt a b h = omega arith
+
       small : (n : ℕ) → 2 ^ 104 ≤ n → (2 ^ 52 + 2 ^ 52) * (2 ^ 52 + 2 ^ 52) ≤ 4 * n
       small n h = omega arith
+
       pred-is : (r : ℕ) → 2 ^ 52 < r → r - 1 + 1 ≡ r
       pred-is r h = omega arith
+
       down1 : 2 ^ 52 < R → (R - 1 + R) * (R - 1 + R) < 4 * n
       down1 t = subst (λ (z : ℕ). (R - 1 + z) * (R - 1 + z) < 4 * n) (pred-is R t) (odd-down (R - 1) (subst (Closest n) (sym (pred-is R t)) c))
 
@@ -295,6 +296,7 @@ held R K h k =
   where
     room : R * 2 ^ K < 2 ^ 2098
     room = lt-of-le-of-lt (mul-le-mul h (pow-mono k)) (lit≤ tt)
+
     carry : R ≡ 2 ^ 53 → R * 2 ^ K ≡ 2 ^ 52 * 2 ^ suc K
     carry e = ap (λ (z : ℕ). z * 2 ^ K) e ∙ mul-assoc (2 ^ 52) 2 (2 ^ K) ∙ ap (λ (z : ℕ). 2 ^ 52 * z) (mul-comm 2 (2 ^ K) ∙ sym (pow-suc 2 K))
 
@@ -338,7 +340,7 @@ module _ (x : Float) (f : T (fits binary64 x)) (i : T (finite x)) (p : 0 < magUn
   cut =
       let c = d .m * 2 ^ (d .j + 1074 - (K + K)) in
       let is : N ≡ c * 4 ^ K =
-          N-is ∙ multiple (d .m) (d .j + 1074) (K + K) fits-twice ∙ ap (λ (z : ℕ). c * z) (pow-add 2 K K ∙ sym (four-pow K)) in
+      N-is ∙ multiple (d .m) (d .j + 1074) (K + K) fits-twice ∙ ap (λ (z : ℕ). c * z) (pow-add 2 K K ∙ sym (four-pow K)) in
       ap₂ (λ (a b : ℕ). a / 4 ^ K * b) is (sym (four-pow K)) ∙ ap (λ (z : ℕ). z * 4 ^ K) (mul-div-cancel c (four-pos K)) ∙ sym is
 
   low-digits : 2 ^ 104 ≤ N / 4 ^ K

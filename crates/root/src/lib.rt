@@ -78,9 +78,15 @@ fn next_digit(s: Digits, d: u64) -> Digits
     let r = s.rem * 4 + d;
     let t = s.root * 4 + 1;
     if t <= r {
-        Digits { root: s.root * 2 + 1, rem: r - t }
+        Digits {
+            root: s.root * 2 + 1,
+            rem: r - t,
+        }
     } else {
-        Digits { root: s.root * 2, rem: r }
+        Digits {
+            root: s.root * 2,
+            rem: r,
+        }
     }
 }
 
@@ -135,5 +141,8 @@ pub fn root(x: f64) -> Rooted
             };
         }
     }
-    Rooted { number: 7, root: 0.0 }
+    Rooted {
+        number: 7,
+        root: 0.0,
+    }
 }

@@ -1,5 +1,5 @@
 -- `float::abs` meets its contract: by the sign, with the zeros apart. Assumes nothing.
-use mathlib.Core.Path.{_≡_, sym, subst}
+use mathlib.Core.Path.{sym, subst}
 use lib.Dec.{T}
 use lib.Ieee.{binary64, fits, ofBits}
 use Rattle.float.proofs.Tests.{abs-negative, abs-zero, abs-positive}

@@ -28,7 +28,7 @@ returns c =
     let z = c .before .args .z in
     let s = c .before .pre in
     let r : (c .truncating-f64-to-u64 .result + 1) / 2 ≡ halfUp z =
-        ap (λ (k : ℕ). (k + 1) / 2) (c .truncating-f64-to-u64 .ensures) ∙ cut-rounds z (held (c .before)) s in
+    ap (λ (k : ℕ). (k + 1) / 2) (c .truncating-f64-to-u64 .ensures) ∙ cut-rounds z (held (c .before)) s in
     (r, subst (λ (k : ℕ). k ≤ 1000000) (sym r) (halfUp-le z (s .low)))
 
 pub half-up-spec : {M : Type 1} → statement M

@@ -1,7 +1,7 @@
 -- `float::quotients` meets its contract. The loop's invariant: every place before i holds its quotient. Assumes nothing.
 use mathlib.Core.Path.{_≡_, refl, sym, _∙_}
 use mathlib.Core.List.{List}
-use Prim.Native.Nat.{ℕ, _+_, _-_, _<_, _≤_}
+use Prim.Native.Nat.{ℕ, _-_, _<_, _≤_}
 use native.Mathlib.Omega.{arith}
 use borrow.Author.Needs.{needs}
 use lib.ListN.{length, getD, length-set}
@@ -46,8 +46,7 @@ loop-again c =
     let at = c .before .loop in
     let x = c .before .before .args .t1 in
     let s = c .before .before .args .s in
-    let v = over x s (at .i) in
-    (
+    let v = over x s (at .i) in (
       omega arith,
       length-set (at .t) (at .i) v ∙ at .inv .1,
       filled-more Float nan (over x s) (at .t) (at .i) v (omega arith) refl (at .inv .2),

@@ -5,7 +5,6 @@ use native.Mathlib.Omega.{arith}
 use borrow.Author.Needs.{needs}
 use lib.ListN.{length, drop}
 use lib.Ieee.{ofBits}
-use Rattle.float.specs.Value.{zero64}
 use Rattle.float.specs.Calls.{sumFrom, sumOf}
 use Rattle.float.proofs.Lists.{sum-next, sum-done}
 use Rattle.float.proofs.sum8.Statement.{statement}

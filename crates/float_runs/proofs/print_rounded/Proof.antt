@@ -1,5 +1,5 @@
 -- `float_runs::print_rounded` is safe: a rounded number is at most a million in size. Assumes nothing.
-use mathlib.Core.Path.{_≡_, sym, subst}
+use mathlib.Core.Path.{sym, subst}
 use Prim.Native.Nat.{_≤_}
 use borrow.Author.Needs.{needs}
 use lib.Dec.{T}

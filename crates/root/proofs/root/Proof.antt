@@ -1,5 +1,5 @@
 -- `root::root` meets its contract: a zero, a finite number above zero, anything else. Assumes nothing.
-use mathlib.Core.Path.{_≡_, sym, subst}
+use mathlib.Core.Path.{sym, subst}
 use lib.Dec.{T}
 use lib.Ieee.{binary64, fits, ofBits, div}
 use Rattle.root.proofs.Whole.{above-of, rooted-zero, rooted-above, rooted-none}

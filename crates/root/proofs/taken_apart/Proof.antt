@@ -1,5 +1,5 @@
 -- `root::taken_apart` meets its contract: the fields of the bits, with a field of 0 apart. Assumes nothing.
-use mathlib.Core.Path.{_≡_, sym, subst}
+use mathlib.Core.Path.{sym, subst}
 use native.Mathlib.Omega.{arith}
 use borrow.Author.Needs.{needs}
 use lib.Dec.{T}
