@@ -20,7 +20,7 @@ use mir.ValLaws.{toZ-pos, toZ-ofZ}
 use Rattle.laws.specs.Tests.{true-is}
 use Rattle.float.specs.Value.{U, magUnits, isMinus, posUnits, negUnits, zero64}
 use Rattle.float.specs.Calls.{halfUp, roundAway}
-use Rattle.float.specs.Exact.{has-value, Exactly, double-exactly, neg-exactly, mag-parts}
+use Rattle.float.specs.Exact.{has-value, Exactly, double-exactly, neg-exactly, neg-mag, mag-parts}
 use Rattle.float.specs.Compare.{is-lt, lt-zero, from-zero, not-lt-zero}
 use Rattle.float.specs.Rounding.{Ranged, Small}
 
@@ -107,12 +107,6 @@ le-finite c (inl e) t = absurd (true≢false (sym t ∙ ap (λ (x : Float). le z
 le-finite c (inr r) t = r
 
 module _ (c : Float) (f : T (fits binary64 c)) (r : Ranged c) where
-  mag-neg : T (finite c) → magUnits (neg c) ≡ magUnits c
-  mag-neg i = go (posUnits c) (negUnits c) (posUnits (neg c)) (negUnits (neg c)) (magUnits c) (magUnits (neg c)) (neg-exactly c i .0) (neg-exactly c i .1) (mag-parts c) (mag-parts (neg c))
-    where
-      go : (p n q m g h : ℕ) → q ≡ n → m ≡ p → g ≡ p + n → h ≡ q + m → h ≡ g
-      go p n q m g h a b d e = omega arith
-
   pub small-negative : lt c zero64 ≡ true → Small (neg c)
   small-negative t =
       let i = lt-finite c r t in
@@ -121,7 +115,7 @@ module _ (c : Float) (f : T (fits binary64 c)) (r : Ranged c) where
       record {
         fin = n .2;
         plain = n .1 ∙ ap (λ (s : Bool). cond s 0 (magUnits c)) (m .0);
-        low = subst (λ (g : ℕ). g ≤ 1000000 * U) (sym (mag-neg (i .0))) (i .1);
+        low = subst (λ (g : ℕ). g ≤ 1000000 * U) (sym (neg-mag c)) (i .1);
       }
 
   pub away-negative : lt c zero64 ≡ true → roundAway c ≡ negℤ (pos (halfUp (neg c)))
@@ -129,7 +123,7 @@ module _ (c : Float) (f : T (fits binary64 c)) (r : Ranged c) where
   away-negative t =
       let i = lt-finite c r t in
       ap (λ (s : Bool). cond s (negℤ (pos (halfUp c))) (pos (halfUp c))) (lt-zero c f (i .0) (true-is (lt c zero64) t) .0)
-      ∙ ap (λ (g : ℕ). negℤ (pos ((g * 2 + U) / (U * 2)))) (sym (mag-neg (i .0)))
+      ∙ ap (λ (g : ℕ). negℤ (pos ((g * 2 + U) / (U * 2)))) (sym (neg-mag c))
 
   pub small-plain : le zero64 c ≡ true → Small c
   small-plain t =

@@ -19,6 +19,7 @@ use native.Mathlib.Nat.{
   mul-comm,
   mul-assoc,
   mul-left-comm,
+  mul-mul-mul-comm,
   mul-one,
   zero-mul,
   mul-pos,
@@ -31,21 +32,21 @@ use native.Mathlib.Nat.{
 use native.Mathlib.Omega.{arith}
 use lib.Dec.{T, ltb, eqb, ltb→lt, nltb→le, eqb·suc-zero, lit≤}
 use lib.Pow.{pow-pos}
-use lib.Ieee.{Float, nan, inf, fin, binary64, up, down, unlike, fits, round, sum, add, sub, mul, div, neg}
+use lib.Ieee.{Float, nan, inf, fin, binary64, up, down, unlike, fits, round, sum, add, sub, mul, div}
 use lib.Ieee.Fits.{down-pos, up-pos}
 use lib.Ieee.Scale.{finite}
 use Rattle.laws.specs.Whole.{gap}
 use Rattle.float.specs.Value.{U, magUnits, isMinus, posUnits, negUnits, four64}
-use Rattle.float.specs.Exact.{has-value, no-digits, scaled, neg-exactly, mag-parts}
+use Rattle.float.specs.Exact.{has-value, no-digits, scaled, neg-mag, mag-parts, unlike-false}
 use Rattle.float.specs.Error.{halfUlp, Rounded, round-units, rounded-cancel}
 use Rattle.float.specs.Near.{Near, near-more, near-parts, near-scale, near-neg, near-mag-plain, mag-near-plain, rounded-near, near-signed}
 
 -- ---- x + y
+sub-mul : (i j l : ℕ) → (i - j) * l ≡ i * l - j * l
+sub-mul i j l = mul-comm (i - j) l ∙ mul-sub l i j ∙ ap₂ (λ (m n : ℕ). m - n) (mul-comm l i) (mul-comm l j)
+
 -- ±a / c and ±b / c, which are x and y units, added
 module _ (a b c x y k : ℕ) (C : 0 < c) (p : a * U ≡ x * c) (q : b * U ≡ y * c) (K : k ≤ 1023) (h : x + y < 2 ^ (k + 1074)) where
-  sub-mul : (i j l : ℕ) → (i - j) * l ≡ i * l - j * l
-  sub-mul i j l = mul-comm (i - j) l ∙ mul-sub l i j ∙ ap₂ (λ (m n : ℕ). m - n) (mul-comm l i) (mul-comm l j)
-
   joined : (a + b) * U ≡ (x + y) * c
   joined = add-mul a b U ∙ ap₂ (λ (i j : ℕ). i + j) p q ∙ sym (add-mul x y c)
 
@@ -124,20 +125,12 @@ near-add {c} {x} {y} {p} {n} {e} {q} {m} {f} b u w B h =
 pub near-sub : {c : ℕ} {x y : Float} {p n e q m f : ℕ} (b : ℕ) → Near c x p n e → Near c y q m f → b ≤ 1023
     → magUnits x + magUnits y < 2 ^ (b + 1074) → Near c (sub binary64 x y) (p + m) (n + q) (e + f + halfUlp b * c)
 unfolding sub
-near-sub {c} {x} {y} b u w B h =
-    near-add b u (near-neg w) B (subst (λ (g : ℕ). magUnits x + g < 2 ^ (b + 1074)) turned h)
-  where
-    turned : magUnits y ≡ magUnits (neg y)
-    turned =
-        let t = neg-exactly y (w .fin) in
-        mag-parts y ∙ add-comm (posUnits y) (negUnits y) ∙ ap₂ (λ (i j : ℕ). i + j) (sym (t .0)) (sym (t .1)) ∙ sym (mag-parts (neg y))
+near-sub {c} {x} {y} b u w B h = near-add b u (near-neg w) B (subst (λ (g : ℕ). magUnits x + g < 2 ^ (b + 1074)) (sym (neg-mag y)) h)
 
 -- ---- x * y, by sign and magnitude
 product : (m n u x y d c : ℕ) → m * u ≡ x * d → n * u ≡ y * c → m * n * u * u ≡ x * y * (d * c)
 product m n u x y d c p q =
-    let l : m * n * u * u ≡ m * u * (n * u) = simp (mul-assoc, mul-comm, mul-left-comm) in
-    let r : x * d * (y * c) ≡ x * y * (d * c) = simp (mul-assoc, mul-comm, mul-left-comm) in
-    l ∙ ap₂ (λ (i j : ℕ). i * j) p q ∙ r
+    mul-assoc (m * n) u u ∙ mul-mul-mul-comm m n u u ∙ ap₂ (λ (i j : ℕ). i * j) p q ∙ mul-mul-mul-comm x d y c
 
 -- z is a fraction num / den that is v / w units, rounded with the sign s: the absolute and the relative law start from it
 pub record Fraction (z : Float) (s : Bool) (v w : ℕ) : Type 0 where
@@ -176,7 +169,7 @@ mul-rounded x y b fx fy ix iy B h = fraction-rounded b (mul-fraction x y fx fy i
 -- ---- x / y, by sign and magnitude
 quotient : (m n u x y d c : ℕ) → m * u ≡ x * d → n * u ≡ y * c → m * c * u * y ≡ x * u * (n * d)
 quotient m n u x y d c p q =
-    let l : m * c * u * y ≡ m * u * (y * c) = simp (mul-assoc, mul-comm, mul-left-comm) in
+    let l : m * c * u * y ≡ m * u * (y * c) = simp (mul-assoc, mul-comm) in
     let r : x * d * (n * u) ≡ x * u * (n * d) = simp (mul-assoc, mul-comm, mul-left-comm) in
     l ∙ ap₂ (λ (i j : ℕ). i * j) p (sym q) ∙ r
 
@@ -325,10 +318,6 @@ four-units = refl
 four-fits : T (fits binary64 four64)
 unfolding fits
 four-fits = tt
-
-unlike-false : (s : Bool) → unlike s false ≡ s
-unlike-false false = refl
-unlike-false true = refl
 
 pub near-quarter : {x : Float} {p n e : ℕ} (b : ℕ) → Near 1 x p n e → b ≤ 1023 → magUnits x < 2 ^ (b + 1074) * 4
     → Near 4 (div binary64 x four64) p n (e + halfUlp b * 4)

@@ -248,6 +248,13 @@ ofInt-whole (negsuc n) h =
     record { fit = i .fit; fin = i .fin; pos-is = w .0 ∙ sym (zero-mul U); neg-is = w .1 ∙ i .mag }
 
 -- ---- -x
+pub neg-mag : (x : Float) → magUnits (neg x) ≡ magUnits x
+unfolding neg magUnits
+neg-mag nan = refl
+neg-mag (inf s) = refl
+neg-mag (fin s m (pos k)) = refl
+neg-mag (fin s m (negsuc k)) = refl
+
 pub neg-exactly : (x : Float) → T (finite x) → (posUnits (neg x) ≡ negUnits x) × (negUnits (neg x) ≡ posUnits x) × T (finite (neg x))
 unfolding neg magUnits
 neg-exactly nan i = absurd i
@@ -284,7 +291,7 @@ double-exactly (fin false m e) f i h = twice false m e f h
 double-exactly (fin true m e) f i h = twice true m e f h
 
 -- ---- x * 1.0 is x
-unlike-false : (s : Bool) → unlike s false ≡ s
+pub unlike-false : (s : Bool) → unlike s false ≡ s
 unlike-false false = refl
 unlike-false true = refl
 

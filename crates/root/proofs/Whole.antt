@@ -44,7 +44,7 @@ radicand m c h k e =
     ∙ gather m (2 ^ h) (2 ^ k) (2 ^ 52)
   where
     spread : (m a b d : ℕ) → m * (a * a) * (b * b * d) ≡ m * (a * b * (a * b) * d)
-    spread m a b d = simp (mul-assoc, mul-comm, mul-left-comm)
+    spread m a b d = simp (mul-assoc, mul-left-comm)
 
     gather : (m a b d : ℕ) → m * (a * b * (a * b) * d) ≡ m * (a * a) * d * (b * b)
     gather m a b d = simp (mul-assoc, mul-comm, mul-left-comm)

@@ -22,6 +22,7 @@ use native.Mathlib.Nat.{
   mul-assoc,
   mul-comm,
   mul-left-comm,
+  mul-mul-mul-comm,
   one-mul,
   mul-pos,
   mul-le-mul,
@@ -190,7 +191,7 @@ next-below m j r k h f l =
 
 -- ---- squares of multiples of p
 sq-scale : (a p : ℕ) → a * p * (a * p) ≡ a * a * (p * p)
-sq-scale a p = simp (mul-assoc, mul-comm, mul-left-comm)
+sq-scale a p = mul-mul-mul-comm a p a p
 
 sq-below : (w a n p : ℕ) → 0 < p → w ≤ a * p → a * a < 4 * n → w * w < 4 * (n * (p * p))
 sq-below w a n p P h l =
