@@ -1,10 +1,16 @@
 -- Worked examples, computed. Assumes nothing.
 use mathlib.Core.Path.{_≡_, refl}
 use mathlib.Core.Bool.{true}
-use lib.IntN.{pos, negsuc}
-use lib.Ieee.{nan, inf, binary64, ofBits, lt}
-use Rattle.float.specs.Value.{magUnits}
+use mathlib.Core.List.{List, [], _∷_}
+use Prim.Native.Nat.{_<_}
+use lib.Dec.{T, lit≤}
+use lib.IntN.{ℤ, pos, negsuc, natAbs}
+use lib.Ieee.{Float, nan, inf, binary64, ofBits, lt}
+use Rattle.float.specs.Value.{magUnits, zero64}
 use Rattle.float.specs.Calls.{halfUp, roundAway, clamped, rounded}
+use Rattle.float.specs.Distance.{sqDist, floatDist}
+use Rattle.float.specs.Exact.{zero-fits}
+use Rattle.float.specs.Margin.{Tame, AllTame, margin-decides}
 
 -- ---- the least double is one unit
 least-units : magUnits (ofBits binary64 1) ≡ 1
@@ -45,3 +51,13 @@ minus-infinity = refl
 no-number : rounded nan ≡ pos 0
 unfolding rounded clamped roundAway halfUp magUnits lt
 no-number = refl
+
+-- ---- what the margin asks can be met: of 0 and 1, 0 is the nearer to 0.0
+tame-zero : (y : ℤ) → natAbs y < 32 → Tame y zero64
+tame-zero y h = record { fit = zero-fits; fin = tt; small-y = h; small-t = unfold magUnits in lit≤ tt }
+
+zero-nearer : T (lt (floatDist (pos 0 ∷ []) (zero64 ∷ [])) (floatDist (pos 1 ∷ []) (zero64 ∷ [])))
+unfolding AllTame
+zero-nearer =
+    margin-decides (pos 0 ∷ []) (pos 1 ∷ []) (zero64 ∷ []) (lit≤ tt) (tame-zero (pos 0) (lit≤ tt), tt) (tame-zero (pos 1) (lit≤ tt), tt)
+    (unfold sqDist magUnits in lit≤ tt)
