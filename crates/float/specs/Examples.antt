@@ -1,11 +1,11 @@
 -- Worked examples, computed. Assumes nothing.
 use mathlib.Core.Path.{_≡_, refl}
 use mathlib.Core.Bool.{true}
-use mathlib.Core.List.{List, [], _∷_}
+use mathlib.Core.List.{[], _∷_}
 use Prim.Native.Nat.{_<_}
 use lib.Dec.{T, lit≤}
 use lib.IntN.{ℤ, pos, negsuc, natAbs}
-use lib.Ieee.{Float, nan, inf, binary64, ofBits, lt}
+use lib.Ieee.{nan, inf, binary64, ofBits, lt}
 use Rattle.float.specs.Value.{magUnits, zero64}
 use Rattle.float.specs.Calls.{halfUp, roundAway, clamped, rounded}
 use Rattle.float.specs.Distance.{sqDist, floatDist}

@@ -29,7 +29,7 @@ unfoldable pub wholeRoot : ℕ → ℕ → ℕ
 wholeRoot zero n = 0
 wholeRoot (suc d) n = twiceOr (wholeRoot d (n / 4)) n
 
--- the whole number nearest to the root: one more where n is above the square of r + 1 / 2
+-- the whole number nearest to the root, r being the whole root: one more where n is above the square of r + 1 / 2
 abbrev pub nearer : ℕ → ℕ → ℕ
 nearer r n = cond (ltb (r * r + r) n) (r + 1) r
 
@@ -37,14 +37,15 @@ nearer r n = cond (ltb (r * r + r) n) (r + 1) r
 abbrev pub rootTo : ℕ → ℕ → ℕ
 rootTo k n = nearer (wholeRoot 53 (n / 4 ^ k)) (n / 4 ^ k) * 2 ^ k
 
--- the root of x in units, and as a double
+-- the root of x in units: n / 4 ^ k has 105 or 106 digits, so its root has 53
 unfoldable pub rootUnits : Float → ℕ
 rootUnits x = rootTo ((size (magUnits x * U) - 105) / 2) (magUnits x * U)
 
+-- and as a double, which has room for all 53: nothing is rounded here
 unfoldable pub rootOf : Float → Float
 rootOf x = round binary64 false (rootUnits x) U
 
--- ---- the answer for every double
+-- ---- the answer for every double: a NaN, an infinity and a negative have no root; either zero is its own
 abbrev pub noRoot : Rooted
 noRoot = record { number = 7; root = zero64 }
 
