@@ -48,7 +48,7 @@ loop-again c =
     let s = c .before .before .args .s in
     let v = over x s (at .i) in (
       omega arith,
-      length-set (at .t) (at .i) v ∙ at .inv .1,
+      simp length-set (at .inv .1),
       filled-more Float nan (over x s) (at .t) (at .i) v (omega arith) refl (at .inv .2),
     )
 
