@@ -1,12 +1,14 @@
 -- The order of lists of numbers, first element most significant: a comparison, and what it hands on where the two are equal. Assumes nothing.
 use mathlib.Core.Path.{_≡_, _∙_, subst, sym, refl, ap}
 use mathlib.Core.Logic.{_⊎_, inl, inr}
-use mathlib.Core.Bool.{Bool, true, false}
+use mathlib.Core.Bool.{Bool, true, false, not}
 use mathlib.Core.List.{List, [], _∷_}
 use Prim.Native.Nat.{ℕ, zero, suc, _+_, _<_, _≤_, compare, Ordering, Ordering·lt, Ordering·eq, Ordering·gt}
 use native.Mathlib.Omega.{arith}
 use lib.Dec.{T, isLe, isEq, leb→le, le→leb, eqb→eq, eqb-refl}
 use Rattle.laws.specs.Tests.{Says, says-by, true-is}
+use lib.Dec.{T, isLe, isEq, leb→le, nleb→lt, le→leb, eqb→eq, eqb-refl}
+use lib.Arith.{lt-of-le-ne}
 
 -- smaller: yes; equal: as the rest says; greater: no
 abbrev pub pick3 : Ordering → Bool → Bool
@@ -119,3 +121,27 @@ unfolding Says LexLe
 lexLe-says [] w = tt
 lexLe-says (x ∷ v) [] = λ z. z
 lexLe-says (x ∷ v) (y ∷ w) = pick3-says x y (lexLe v w) (LexLe v w) (lexLe-says v w)
+-- ---- what a comparison of two numbers says
+abbrev pub Compared : Ordering → ℕ → ℕ → Type 0
+Compared Ordering·lt a b = a < b
+Compared Ordering·eq a b = a ≡ b
+Compared Ordering·gt a b = b < a
+
+pub compared : (a b : ℕ) → Compared (compare a b) a b
+compared a b = go (compare a b) refl
+  where
+    go : (o : Ordering) → compare a b ≡ o → Compared o a b
+    go Ordering·lt e = lt-of-le-ne (leb→le a b (subst (λ (o : Ordering). T (isLe o)) (sym e) tt)) differ
+      where
+        differ : a ≡ b → ⊥
+        differ q = subst (λ (o : Ordering). T (isEq o)) e (subst (λ (m : ℕ). T (isEq (compare a m))) q (eqb-refl a))
+    go Ordering·eq e = eqb→eq a b (subst (λ (o : Ordering). T (isEq o)) (sym e) tt)
+    go Ordering·gt e = nleb→lt a b (subst (λ (o : Ordering). T (not (isLe o))) (sym e) tt)
+
+pub le-or-lt : (a b : ℕ) → (a ≤ b) ⊎ (b < a)
+le-or-lt a b = go (compare a b) (compared a b)
+  where
+    go : (o : Ordering) → Compared o a b → (a ≤ b) ⊎ (b < a)
+    go Ordering·lt c = inl (omega arith)
+    go Ordering·eq c = inl (omega arith)
+    go Ordering·gt c = inr c

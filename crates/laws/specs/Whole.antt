@@ -86,3 +86,15 @@ mag-neg (suc n) = omega arith
 pub mag-mul4 : (k : ℤ) → mag (pos 4 *ℤ k) ≤ 4 * mag k + 4
 mag-mul4 (pos n) = omega arith
 mag-mul4 (negsuc n) = omega (arith, mag-neg (4 * suc n))
+
+-- ---- a number as the difference of its two parts, of which one is 0; and how far two numbers are apart
+abbrev pub posPart : ℤ → ℕ
+posPart (pos n) = n
+posPart (negsuc n) = 0
+
+abbrev pub negPart : ℤ → ℕ
+negPart (pos n) = 0
+negPart (negsuc n) = suc n
+
+abbrev pub gap : ℕ → ℕ → ℕ
+gap p n = (p - n) + (n - p)
