@@ -36,7 +36,7 @@ use lib.Ieee.Exact.{HasValue, units-val}
 use lib.Ieee.Nearest.{closest}
 use lib.Ieee.Order.{drop, kept}
 use lib.Ieee.Scale.{finite, grid}
-use Rattle.laws.specs.Order.{Compared, compared}
+use Rattle.laws.specs.Order.{Ordered, compared}
 use Rattle.float.specs.Value.{U, magUnits, isMinus}
 use Rattle.float.specs.Exact.{Exactly, exactly}
 
@@ -46,7 +46,7 @@ pub record Within (v n u : ℕ) : Type 0 where
   pub lo : n * 2 ≤ v * u * 2 + u
 
 -- the quotient q with the remainder r, moved up or not
-within : (q r u : ℕ) (o : Ordering) → r < u → Compared o (r * 2) u → Within (nearest q o) (q * u + r) u
+within : (q r u : ℕ) (o : Ordering) → r < u → Ordered o (r * 2) u → Within (nearest q o) (q * u + r) u
 within q r u Ordering·lt l c = record { hi = omega arith; lo = omega arith }
 within q r u Ordering·eq l c =
     let a : nearest q Ordering·eq * u ≡ q * u + q % 2 * u = add-mul q (q % 2) u in

@@ -122,15 +122,15 @@ lexLe-says [] w = tt
 lexLe-says (x ∷ v) [] = λ z. z
 lexLe-says (x ∷ v) (y ∷ w) = pick3-says x y (lexLe v w) (LexLe v w) (lexLe-says v w)
 -- ---- what a comparison of two numbers says
-abbrev pub Compared : Ordering → ℕ → ℕ → Type 0
-Compared Ordering·lt a b = a < b
-Compared Ordering·eq a b = a ≡ b
-Compared Ordering·gt a b = b < a
+abbrev pub Ordered : Ordering → ℕ → ℕ → Type 0
+Ordered Ordering·lt a b = a < b
+Ordered Ordering·eq a b = a ≡ b
+Ordered Ordering·gt a b = b < a
 
-pub compared : (a b : ℕ) → Compared (compare a b) a b
+pub compared : (a b : ℕ) → Ordered (compare a b) a b
 compared a b = go (compare a b) refl
   where
-    go : (o : Ordering) → compare a b ≡ o → Compared o a b
+    go : (o : Ordering) → compare a b ≡ o → Ordered o a b
     go Ordering·lt e = lt-of-le-ne (leb→le a b (subst (λ (o : Ordering). T (isLe o)) (sym e) tt)) differ
       where
         differ : a ≡ b → ⊥
@@ -141,7 +141,7 @@ compared a b = go (compare a b) refl
 pub le-or-lt : (a b : ℕ) → (a ≤ b) ⊎ (b < a)
 le-or-lt a b = go (compare a b) (compared a b)
   where
-    go : (o : Ordering) → Compared o a b → (a ≤ b) ⊎ (b < a)
+    go : (o : Ordering) → Ordered o a b → (a ≤ b) ⊎ (b < a)
     go Ordering·lt c = inl (omega arith)
     go Ordering·eq c = inl (omega arith)
     go Ordering·gt c = inr c

@@ -123,16 +123,3 @@ below (suc n) f t (suc k) h =
 -- the same in two numbers
 pub below2 : (n m : ℕ) (f : ℕ → ℕ → Bool) → T (upto n (λ (a : ℕ). upto m (f a))) → (a b : ℕ) → a < n → b < m → T (f a b)
 below2 n m f t a b ha hb = below m (f a) (below n (λ (x : ℕ). upto m (f x)) t a ha) b hb
-
--- ---- either of two tests
-pub or-left : (a b : Bool) → T a → T (a || b)
-or-left true b t = tt
-or-left false b t = absurd t
-
-pub or-right : (a b : Bool) → T b → T (a || b)
-or-right true b t = tt
-or-right false b t = t
-
-pub or-cases : (a b : Bool) → T (a || b) → T a ⊎ T b
-or-cases true b t = inl tt
-or-cases false b t = inr t
