@@ -1,0 +1,5 @@
+pub mod Rows
+pub mod Table
+pub mod Vectors
+pub mod Key
+pub mod Rule
