@@ -3,3 +3,5 @@ pub mod Table
 pub mod Vectors
 pub mod Key
 pub mod Rule
+pub mod Order
+pub mod Sorted

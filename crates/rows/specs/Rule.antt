@@ -2,15 +2,16 @@
 use mathlib.Core.Path.{_≡_, refl}
 use mathlib.Core.Bool.{Bool, _&&_, Bool·beq}
 use mathlib.Core.List.{List}
-use Prim.Native.Nat.{ℕ, _/_, _%_, _<_}
+use Prim.Native.Nat.{ℕ, _+_, _/_, _%_, _<_}
 use native.Mathlib.Omega.{arith}
 use lib.Dec.{T, ltb, eqb, eqb→eq}
 use lib.ListN.{length, getD}
 use Rattle.laws.specs.Tests.{split4, beq-eq}
 use Rattle.laws.specs.Tables.{every, at}
-use Rattle.rank.specs.Vector.{class, pack, unpack, inClass, inMiddle}
+use Rattle.rank.specs.Vector.{ranksBelow, class, pack, unpack, inClass, inMiddle}
 use Rattle.rows.specs.Rows.{rows}
-use Rattle.rows.specs.Table.{rowRanks, middleRows}
+use Rattle.rows.specs.Table.{rowRanks, maxRank, middleRows}
+use Rattle.rows.specs.Vectors.{unpack-below, class-ranks}
 
 pub count : length rows ≡ 4096
 unfolding rows
@@ -59,3 +60,16 @@ row-middle i h = beq-eq (inMiddle (unpack 8 (getD rows i 0))) (ltb (i % 2048) (m
 pub row-packed : (i : ℕ) → i < 4096 → pack (rowRanks i) ≡ getD rows i 0
 unfolding rowRanks
 row-packed i h = eqb→eq _ _ (right-at i h .3)
+
+pub row-below : (i : ℕ) → T (ranksBelow 16 (rowRanks i))
+unfolding rowRanks
+row-below i = unpack-below 8 (getD rows i 0)
+
+-- no rank is above 4
+pub row-ranks : (i : ℕ) → i < 4096 → T (ranksBelow (maxRank + 1) (rowRanks i))
+row-ranks i h = class-ranks (i / 2048) (rowRanks i) (row-within i h)
+
+-- and a row reaches 4
+pub rank-four : getD (rowRanks 1256) 7 0 ≡ maxRank
+unfolding rowRanks rows
+rank-four = refl
