@@ -5,3 +5,4 @@ pub mod Key
 pub mod Rule
 pub mod Order
 pub mod Sorted
+pub mod Complete
