@@ -6,3 +6,4 @@ pub mod Rule
 pub mod Order
 pub mod Sorted
 pub mod Complete
+pub mod Places
