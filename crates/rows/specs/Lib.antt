@@ -7,3 +7,5 @@ pub mod Order
 pub mod Sorted
 pub mod Complete
 pub mod Places
+pub mod Middle
+pub mod Answers

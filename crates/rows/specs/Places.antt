@@ -1,7 +1,7 @@
 -- Where a vector stands in the table: a row at its own number, and no other vector anywhere. Assumes nothing.
 use mathlib.Core.Path.{_≡_, _∙_, refl, ap, sym, subst}
 use mathlib.Core.Bool.{Bool, true, false, cond}
-use mathlib.Core.Logic.{_↔_}
+use mathlib.Core.Logic.{_↔_, _⊎_, inl, inr}
 use mathlib.Core.List.{List, [], _∷_}
 use Prim.Native.Nat.{ℕ, zero, suc, _+_, _*_, _-_, _/_, _%_, _^_, _<_, _≤_}
 use native.Mathlib.Decide.{decLt}
@@ -17,6 +17,16 @@ use Rattle.rows.specs.Vectors.{unpack-pack, pack-unpack, below-up, class
 use Rattle.rows.specs.Rule.{count, row-length, row-class, row-within, row-middle, row-packed, row-ranks}
 use Rattle.rows.specs.Order.{unique}
 use Rattle.rows.specs.Complete.{complete}
+
+-- ---- row i of class c is row 2048 c + i
+pub number-class : (c i : ℕ) → i < 2048 → (2048 * c + i) / 2048 ≡ c
+number-class c i h = omega arith
+
+pub number-index : (c i : ℕ) → i < 2048 → (2048 * c + i) % 2048 ≡ i
+number-index c i h = omega arith
+
+pub number-back : (p : ℕ) → 2048 * (p / 2048) + p % 2048 ≡ p
+number-back p = omega arith
 
 -- ---- a packed row
 pub find-le : (w : ℕ) → findOf w ≤ 4096
@@ -81,6 +91,14 @@ position-le v = go (ranksBelow (maxRank + 1) v)
     go true = find-le (pack v)
     go false = omega arith
 
+-- a vector is the row at its place, or no row
+pub row-or-none : (v : List ℕ) → length v ≡ 8 → ((p : ℕ) × (p < 4096) × (rowRanks p ≡ v)) ⊎ ((p : ℕ) → p < 4096 → rowRanks p ≡ v → ⊥)
+row-or-none v e = go (decLt (positionOf v) 4096)
+  where
+    go : Dec (positionOf v < 4096) → ((p : ℕ) × (p < 4096) × (rowRanks p ≡ v)) ⊎ ((p : ℕ) → p < 4096 → rowRanks p ≡ v → ⊥)
+    go (yes l) = inl (positionOf v, l, row-at-position v e l)
+    go (no l) = inr (λ p h q. l (subst (λ (n : ℕ). n < 4096) (sym (ap positionOf (sym q) ∙ position-of-row p h)) h))
+
 pub position-none : (v : List ℕ) → length v ≡ 8 → ((i : ℕ) → i < 4096 → rowRanks i ≡ v → ⊥) → positionOf v ≡ 4096
 position-none v e n = go (decLt (positionOf v) 4096)
   where
@@ -110,10 +128,8 @@ pub is-row : (c : ℕ) (v : List ℕ) → length v ≡ 8 → class v ≡ c → T
 is-row c v e k t =
     let h = position-iff v e .0 (subst (λ (m : ℕ). T (inClass m v)) (sym k) t) in
     let d : positionOf v / 2048 ≡ c = position-class v e h ∙ k in
-    (positionOf v % 2048, omega arith, ap rowRanks (joined (positionOf v) c d) ∙ row-at-position v e h)
-  where
-    joined : (p c : ℕ) → p / 2048 ≡ c → 2048 * c + p % 2048 ≡ p
-    joined p c q = omega arith
+    (positionOf v % 2048, omega arith
+    , ap (λ (n : ℕ). rowRanks (2048 * n + positionOf v % 2048)) (sym d) ∙ ap rowRanks (number-back (positionOf v)) ∙ row-at-position v e h)
 
 -- and it meets the middle's bound exactly where it stands among the middle's rows
 pub position-middle : (v : List ℕ) → length v ≡ 8 → positionOf v < 4096

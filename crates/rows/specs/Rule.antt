@@ -1,5 +1,5 @@
 -- The table's rule, one computed test over all rows, and what it says of each row. Assumes nothing.
-use mathlib.Core.Path.{_≡_, refl}
+use mathlib.Core.Path.{_≡_, refl, sym, subst}
 use mathlib.Core.Bool.{Bool, _&&_, Bool·beq}
 use mathlib.Core.List.{List}
 use Prim.Native.Nat.{ℕ, _+_, _/_, _%_, _<_}
@@ -52,6 +52,10 @@ row-class i h = eqb→eq _ _ (right-at i h .0)
 pub row-within : (i : ℕ) → i < 4096 → T (inClass (i / 2048) (rowRanks i))
 unfolding rowRanks
 row-within i h = right-at i h .1
+
+-- each row meets the bound of its own class
+pub row-in : (i : ℕ) → i < 4096 → T (inClass (class (rowRanks i)) (rowRanks i))
+row-in i h = subst (λ (c : ℕ). T (inClass c (rowRanks i))) (sym (row-class i h)) (row-within i h)
 
 pub row-middle : (i : ℕ) → i < 4096 → inMiddle (rowRanks i) ≡ ltb (i % 2048) (middleRows (i / 2048))
 unfolding rowRanks
