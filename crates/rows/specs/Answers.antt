@@ -38,11 +38,11 @@ pub record ClassIndex (v : List ℕ) (r : Seated) : Type 0 where
   pub row : (c i : ℕ) → c < 2 → i < 2048 → rowRanks (2048 * c + i) ≡ v → valuesOf r ≡ c ∷ i ∷ []
   pub none : ((p : ℕ) → p < 4096 → rowRanks p ≡ v → ⊥) → valuesOf r ≡ []
 
-seat-row : (p : ℕ) → p < 4096 → seatAt p ≡ At (p / 2048) (p % 2048)
+pub seat-row : (p : ℕ) → p < 4096 → seatAt p ≡ At (p / 2048) (p % 2048)
 unfolding seatAt
 seat-row p h = ap (λ (b : Bool). cond b (At (p / 2048) (p % 2048)) Nothing) (lt-ltb p 4096 h)
 
-seat-none : (p : ℕ) → 4096 ≤ p → seatAt p ≡ Nothing
+pub seat-none : (p : ℕ) → 4096 ≤ p → seatAt p ≡ Nothing
 unfolding seatAt
 seat-none p h = ap (λ (b : Bool). cond b (At (p / 2048) (p % 2048)) Nothing) (le-ltb p 4096 h)
 
@@ -92,11 +92,11 @@ pub record MixedIndex (v : List ℕ) (r : Seated) : Type 0 where
   pub row : (i : ℕ) → i < 2048 → rowRanks (middleRow i) ≡ v → valuesOf r ≡ middleClass i ∷ i ∷ []
   pub none : ((i : ℕ) → i < 2048 → rowRanks (middleRow i) ≡ v → ⊥) → valuesOf r ≡ []
 
-middle-used : (c j : ℕ) → j < middleRows c → middleSeat (At c j) ≡ At c (j + 1240 * c)
+pub middle-used : (c j : ℕ) → j < middleRows c → middleSeat (At c j) ≡ At c (j + 1240 * c)
 unfolding middleSeat
 middle-used c j h = ap (λ (b : Bool). cond b (At c (j + 1240 * c)) Nothing) (lt-ltb j (middleRows c) h)
 
-middle-unused : (c j : ℕ) → middleRows c ≤ j → middleSeat (At c j) ≡ Nothing
+pub middle-unused : (c j : ℕ) → middleRows c ≤ j → middleSeat (At c j) ≡ Nothing
 unfolding middleSeat
 middle-unused c j h = ap (λ (b : Bool). cond b (At c (j + 1240 * c)) Nothing) (le-ltb j (middleRows c) h)
 

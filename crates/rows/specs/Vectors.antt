@@ -3,11 +3,11 @@ use mathlib.Core.Path.{_≡_, _∙_, refl, ap, ap₂, sym}
 use mathlib.Core.Logic.{_⊎_, inl, inr}
 use mathlib.Core.List.{List, [], _∷_}
 use Prim.Native.Nat.{ℕ, zero, suc, _+_, _*_, _/_, _%_, _^_, _<_, _≤_}
-use native.Mathlib.Nat.{mul-le-mul, pow-suc}
+use native.Mathlib.Nat.{mul-le-mul, pow-suc, not-suc-le-zero, le-of-suc-le-suc}
 use native.Mathlib.Decide.{decLt}
 use native.Mathlib.Omega.{arith}
 use lib.Dec.{T, ltb, lt→ltb, ltb→lt}
-use lib.ListN.{length}
+use lib.ListN.{length, getD}
 use Rattle.laws.specs.Tests.{and-left, and-right, and-in}
 use Rattle.laws.specs.Order.{lexLe, lexLt, pick3-out, pick3-lt, pick3-eq, pick3-trans}
 use Rattle.rank.specs.Vector.{ranksBelow, sq, cost, pack, unpack, before, within, boundCost, boundCut, inClass, inMiddle, middleCost, middleCut}
@@ -29,6 +29,11 @@ pub below-up : (a b : ℕ) → a ≤ b → (v : List ℕ) → T (ranksBelow a v)
 unfolding ranksBelow
 below-up a b h [] t = tt
 below-up a b h (r ∷ v) t = more-below b r v (omega (arith, first-below a r v t)) (below-up a b h v (rest-below a r v t))
+
+pub below-at : (b : ℕ) (v : List ℕ) → T (ranksBelow b v) → (j : ℕ) → j < length v → getD v j 0 < b
+below-at b [] t j h = absurd (not-suc-le-zero h)
+below-at b (r ∷ v) t zero h = first-below b r v t
+below-at b (r ∷ v) t (suc j) h = below-at b v (rest-below b r v t) j (le-of-suc-le-suc h)
 
 -- ---- packing
 pub unpack-pack : (v : List ℕ) → T (ranksBelow 16 v) → unpack (length v) (pack v) ≡ v

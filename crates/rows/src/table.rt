@@ -1,6 +1,6 @@
 // The rows, packed: eight hexadecimal digits are the eight ranks, the last digit that of coordinate 0.
 // The first 2,048 are of class 0, the others of class 1; each class ascends by cost, then by ranks, coordinate 0 most significant.
-pub const ROWS: [u32; 4096] = [
+pub const TABLE: [u32; 4096] = [
     0x00000000, 0x11000000, 0x10100000, 0x01100000, 0x10010000, 0x01010000, 0x00110000, 0x10001000,
     0x01001000, 0x00101000, 0x00011000, 0x10000100, 0x01000100, 0x00100100, 0x00010100, 0x00001100,
     0x10000010, 0x01000010, 0x00100010, 0x00010010, 0x00001010, 0x00000110, 0x10000001, 0x01000001,
