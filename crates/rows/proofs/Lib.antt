@@ -1,1 +1,2 @@
 pub mod Nibbles
+pub mod Search
