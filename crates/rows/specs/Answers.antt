@@ -46,6 +46,20 @@ pub seat-none : (p : ℕ) → 4096 ≤ p → seatAt p ≡ Nothing
 unfolding seatAt
 seat-none p h = ap (λ (b : Bool). cond b (At (p / 2048) (p % 2048)) Nothing) (le-ltb p 4096 h)
 
+pub seat-fits : (p c i : ℕ) → seatAt p ≡ At c i → (c < 2) × (i < 2048)
+seat-fits p c i e = go (decLt p 4096)
+  where
+    go : Dec (p < 4096) → (c < 2) × (i < 2048)
+    go (yes h) =
+        let q : At (p / 2048) (p % 2048) ≡ At c i = sym (seat-row p h) ∙ e in
+        let x : p / 2048 ≡ c = cc in
+        let y : p % 2048 ≡ i = cc in
+        (omega arith, omega arith)
+    go (no h) =
+        let q : Nothing ≡ At c i = sym (seat-none p (omega arith)) ∙ e in
+        let z : _≡_ {A = ℕ} 0 1 = cc in
+        absurd (omega arith)
+
 -- a row's own class and index
 pub class-index-row : (c i : ℕ) → c < 2 → i < 2048 → classIndexOf (rowRanks (2048 * c + i)) ≡ At c i
 unfolding classIndexOf

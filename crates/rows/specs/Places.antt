@@ -55,9 +55,13 @@ find-none w n = go (decLt (findOf w) 4096)
     go (no l) = omega (arith, find-le w)
 
 -- ---- a vector
-small-position : (v : List ℕ) → T (ranksBelow (maxRank + 1) v) → positionOf v ≡ findOf (pack v)
+pub position-small : (v : List ℕ) → ranksBelow (maxRank + 1) v ≡ true → positionOf v ≡ findOf (pack v)
 unfolding positionOf
-small-position v t = ap (λ (b : Bool). cond b (findOf (pack v)) 4096) (is-true (ranksBelow (maxRank + 1) v) t)
+position-small v e = ap (λ (b : Bool). cond b (findOf (pack v)) 4096) e
+
+pub position-big : (v : List ℕ) → ranksBelow (maxRank + 1) v ≡ false → positionOf v ≡ 4096
+unfolding positionOf
+position-big v e = ap (λ (b : Bool). cond b (findOf (pack v)) 4096) e
 
 cond-lt : (b : Bool) (n : ℕ) → cond b n 4096 < 4096 → T b
 cond-lt true n h = tt
@@ -70,14 +74,14 @@ ranks-decided v h = cond-lt (ranksBelow (maxRank + 1) v) (findOf (pack v)) h
 -- the row of a number stands at that number
 pub position-of-row : (i : ℕ) → i < 4096 → positionOf (rowRanks i) ≡ i
 position-of-row i h =
-    small-position (rowRanks i) (row-ranks i h) ∙ find-at (pack (rowRanks i)) i h (sym (row-packed i h))
+    position-small (rowRanks i) (is-true (ranksBelow (maxRank + 1) (rowRanks i)) (row-ranks i h)) ∙ find-at (pack (rowRanks i)) i h (sym (row-packed i h))
 
 -- the row at a vector's place is the vector
 pub row-at-position : (v : List ℕ) → length v ≡ 8 → positionOf v < 4096 → rowRanks (positionOf v) ≡ v
 unfolding rowRanks
 row-at-position v e h =
     let t = ranks-decided v h in
-    let q = small-position v t in
+    let q = position-small v (is-true (ranksBelow (maxRank + 1) v) t) in
     ap (λ (p : ℕ). unpack 8 (getD rows p 0)) q
     ∙ ap (unpack 8) (find-row (pack v) (subst (λ (p : ℕ). p < 4096) q h))
     ∙ ap (λ (n : ℕ). unpack n (pack v)) (sym e)
