@@ -99,6 +99,23 @@ class-index-in v e t =
 pub class-index-out : (v : List ℕ) → length v ≡ 8 → (T (inClass (class v) v) → ⊥) → classIndexOf v ≡ Nothing
 class-index-out v e n = class-index-none v e (λ p h q. n (subst (λ (u : List ℕ). T (inClass (class u) u)) q (row-in p h)))
 
+-- the row that an answer names is the vector
+pub class-index-back : (v : List ℕ) → length v ≡ 8 → (c i : ℕ) → classIndexOf v ≡ At c i → (c < 2) × (i < 2048) × (rowRanks (2048 * c + i) ≡ v)
+class-index-back v e c i a = go (row-or-none v e)
+  where
+    go : ((p : ℕ) × (p < 4096) × (rowRanks p ≡ v)) ⊎ ((p : ℕ) → p < 4096 → rowRanks p ≡ v → ⊥) → (c < 2) × (i < 2048) × (rowRanks (2048 * c + i) ≡ v)
+    go (inl (p, h, q)) =
+        let s = ap rowRanks (number-back p) ∙ q in
+        let r : At (p / 2048) (p % 2048) ≡ At c i =
+            sym (class-index-row (p / 2048) (p % 2048) (omega arith) (omega arith)) ∙ ap classIndexOf s ∙ a in
+        let x : p / 2048 ≡ c = cc in
+        let y : p % 2048 ≡ i = cc in
+        (omega arith, omega arith, ap (λ (n : ℕ). rowRanks (2048 * n + i)) (sym x) ∙ ap (λ (n : ℕ). rowRanks (2048 * (p / 2048) + n)) (sym y) ∙ s)
+    go (inr n) =
+        let r : Nothing ≡ At c i = sym (class-index-none v e n) ∙ a in
+        let z : _≡_ {A = ℕ} 0 1 = cc in
+        absurd (omega arith)
+
 -- ---- mixed_index
 -- the answer for v: the class and the middle's index of the row that v is, and no value where v is none of the middle's rows
 pub record MixedIndex (v : List ℕ) (r : Seated) : Type 0 where
@@ -167,3 +184,18 @@ mixed-index-in v e t =
 
 pub mixed-index-out : (v : List ℕ) → length v ≡ 8 → (T (inMiddle v) → ⊥) → mixedIndexOf v ≡ Nothing
 mixed-index-out v e n = mixed-index-none v e (λ i h q. n (subst (λ (u : List ℕ). T (inMiddle u)) q (middle-row-in i h)))
+
+pub mixed-index-back : (v : List ℕ) → length v ≡ 8 → (c i : ℕ) → mixedIndexOf v ≡ At c i → (i < 2048) × (middleClass i ≡ c) × (rowRanks (middleRow i) ≡ v)
+mixed-index-back v e c i a = go (middle-or-none v e)
+  where
+    go : ((j : ℕ) × (j < 2048) × (rowRanks (middleRow j) ≡ v)) ⊎ ((j : ℕ) → j < 2048 → rowRanks (middleRow j) ≡ v → ⊥)
+        → (i < 2048) × (middleClass i ≡ c) × (rowRanks (middleRow i) ≡ v)
+    go (inl (j, h, q)) =
+        let r : At (middleClass j) j ≡ At c i = sym (mixed-index-row j h) ∙ ap mixedIndexOf q ∙ a in
+        let x : middleClass j ≡ c = cc in
+        let y : j ≡ i = cc in
+        (omega arith, ap middleClass (sym y) ∙ x, ap (λ (n : ℕ). rowRanks (middleRow n)) (sym y) ∙ q)
+    go (inr n) =
+        let r : Nothing ≡ At c i = sym (mixed-index-none v e n) ∙ a in
+        let z : _≡_ {A = ℕ} 0 1 = cc in
+        absurd (omega arith)

@@ -12,7 +12,7 @@ use Rattle.rank.specs.Vector.{sq, cost, class, pack, unpack, inClass}
 use Rattle.rows.specs.Rows.{rows}
 use Rattle.rows.specs.Table.{rowRanks}
 use Rattle.rows.specs.Vectors.{unpack-pack, below-up, length≤cost, rank-small, class-cost, class-ranks}
-use Rattle.rows.specs.Order.{tableKey}
+use Rattle.rows.specs.Rule.{tableKey}
 
 -- ---- a test at every vector of d ranks whose cost stays below K, s spent: coordinate by coordinate; a branch ends once its cost, each
 -- open coordinate counted as 1, reaches K. No rank from 6 on costs less than 169.

@@ -4,7 +4,6 @@ pub mod Vectors
 pub mod Key
 pub mod Rule
 pub mod Order
-pub mod Sorted
 pub mod Complete
 pub mod Places
 pub mod Middle

@@ -11,27 +11,12 @@ use Rattle.rank.specs.Vector.{cost, class, unpack, before, boundCost, boundCut,
 use Rattle.rows.specs.Rows.{rows}
 use Rattle.rows.specs.Table.{rowRanks}
 use Rattle.rows.specs.Key.{key, key-order}
-use Rattle.rows.specs.Rule.{count, row-length, row-class, row-below}
-
--- the order of the whole table as one number: class, then key. A row's key is below 2 ^ 40.
-abbrev pub tableKey : List ℕ → ℕ
-tableKey v = class v * 2 ^ 40 + key v
-
-rowKey : ℕ → ℕ
-rowKey w = tableKey (unpack 8 w)
-
-ascending : T (ascBy rowKey 0 rows)
-unfolding rowKey rows
-ascending = tt
-
-rows-asc : (i j : ℕ) → i < j → j < 4096 → tableKey (rowRanks i) < tableKey (rowRanks j)
-unfolding rowKey rowRanks
-rows-asc i j h k = asc-lt rowKey 0 rows ascending i j h (omega (arith, count))
+use Rattle.rows.specs.Rule.{tableKey, row-length, row-class, row-below, rows-ascend}
 
 -- in each class the keys ascend
 pub row-key : (i j : ℕ) → i < j → j < 4096 → i / 2048 ≡ j / 2048 → key (rowRanks i) < key (rowRanks j)
 row-key i j h k e = less-by (class (rowRanks i)) (class (rowRanks j)) (key (rowRanks i)) (key (rowRanks j))
-    (row-class i (omega arith) ∙ e ∙ sym (row-class j k)) (rows-asc i j h k)
+    (row-class i (omega arith) ∙ e ∙ sym (row-class j k)) (rows-ascend i j h k)
   where
     less-by : (a b x y : ℕ) → a ≡ b → a * 2 ^ 40 + x < b * 2 ^ 40 + y → x < y
     less-by a b x y p q = omega arith
@@ -45,9 +30,9 @@ pub unique : (i j : ℕ) → i < 4096 → j < 4096 → rowRanks i ≡ rowRanks j
 unique i j hi hj e = go (trichotomy i j) (ap tableKey e)
   where
     go : Compared i j → tableKey (rowRanks i) ≡ tableKey (rowRanks j) → i ≡ j
-    go (less h) q = absurd (omega (arith, rows-asc i j h hj))
+    go (less h) q = absurd (omega (arith, rows-ascend i j h hj))
     go (same q) r = q
-    go (more h) q = absurd (omega (arith, rows-asc j i h hi))
+    go (more h) q = absurd (omega (arith, rows-ascend j i h hi))
 
 -- ---- the last row of each class is the class's cut, at the bound's cost; the middle's last row of class 0 is the middle's cut
 pub last-row : (c : ℕ) → c < 2 → (rowRanks (2048 * c + 2047) ≡ boundCut c) × (cost (rowRanks (2048 * c + 2047)) ≡ boundCost c)

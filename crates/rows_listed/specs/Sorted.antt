@@ -35,13 +35,16 @@ ofClass c [] = []
 ofClass c (w ∷ ws) = elim (eqb (class (unpack 8 w)) c) [ true ↦ w ∷ ofClass c ws | false ↦ ofClass c ws ]
 
 -- ---- and cut
+-- the first n rows of class 0, then the first n of class 1
 unfoldable pub cutAt : ℕ → List ℕ → List ℕ
 cutAt n ws = take n (ofClass 0 ws) ++ take n (ofClass 1 ws)
 
+-- the table is the listing, sorted, split and cut
 pub table-sorted : rows ≡ cutAt 2048 sorted
 unfolding rows cutAt ofClass sorted sort merge listing under grow
 table-sorted = refl
 
+-- the middle section's rows are the first 2,048 of both classes together: 1,240 of class 0 and 808 of class 1
 pub middle-sorted : take 1240 rows ++ take 808 (drop 2048 rows) ≡ cutAt 2048 (take 2048 sorted)
 unfolding rows cutAt ofClass sorted sort merge listing under grow
 middle-sorted = refl
