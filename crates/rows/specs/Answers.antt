@@ -1,19 +1,17 @@
 -- What `class_index` and `mixed_index` answer, said without the search: which row a vector is, and that no second answer fits.
 -- Assumes nothing.
 use mathlib.Core.Path.{_≡_, _∙_, refl, ap, ap₂, sym, subst}
-use mathlib.Core.Bool.{Bool, true, false, cond}
+use mathlib.Core.Bool.{Bool, cond}
 use mathlib.Core.Logic.{_⊎_, inl, inr}
 use mathlib.Core.List.{List, [], _∷_}
-use Prim.Native.Nat.{ℕ, zero, suc, _+_, _*_, _-_, _/_, _%_, _<_, _≤_}
+use Prim.Native.Nat.{ℕ, _+_, _*_, _-_, _/_, _%_, _<_, _≤_}
 use native.Mathlib.Decide.{decLt}
 use native.Mathlib.Omega.{arith}
-use borrow.Author.Tests.{lt-ltb, le-ltb, ltb-true, ltb-false}
-use lib.Dec.{T, ltb, lt→ltb, ltb→lt}
+use borrow.Author.Tests.{lt-ltb, le-ltb}
+use lib.Dec.{T}
 use lib.ListN.{length}
-use Rattle.laws.specs.Tests.{is-true, true-is}
 use Rattle.rank.specs.Vector.{class, inClass, inMiddle}
-use Rattle.rows.specs.Table.{rowRanks, positionOf, seatAt, classIndexOf, middleRows, middleSeat, mixedIndexOf, middleClass, middleRow, numberOf, valuesOf}
-use Rattle.rows.specs.Vectors.{middle-class}
+use Rattle.rows.specs.Table.{rowRanks, seatAt, classIndexOf, middleRows, middleSeat, mixedIndexOf, middleClass, middleRow, numberOf, valuesOf}
 use Rattle.rows.specs.Rule.{row-class, row-in}
 use Rattle.rows.specs.Places.{number-class, number-index, number-back, position-of-row, position-none, row-or-none, is-row}
 use Rattle.rows.specs.Middle.{Names, named, has-index, used-small, index-small, middle-lt, middle-row-class, middle-row-in, middle-at, middle-or-none}

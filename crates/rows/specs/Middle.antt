@@ -8,13 +8,13 @@ use Prim.Native.Nat.{ℕ, zero, suc, _+_, _*_, _-_, _/_, _%_, _<_, _≤_}
 use native.Mathlib.Decide.{decLt}
 use native.Mathlib.Omega.{arith}
 use borrow.Author.Tests.{lt-ltb, le-ltb, ltb-true}
-use lib.Dec.{T, ltb, lt→ltb, ltb→lt}
+use lib.Dec.{T, ltb}
 use lib.ListN.{length}
 use Rattle.laws.specs.Tests.{is-true, true-is}
 use Rattle.rank.specs.Vector.{class, inMiddle}
 use Rattle.rows.specs.Table.{rowRanks, positionOf, middleRows, middleClass, middleRow}
 use Rattle.rows.specs.Vectors.{middle-class}
-use Rattle.rows.specs.Rule.{row-class, row-middle}
+use Rattle.rows.specs.Rule.{row-middle}
 use Rattle.rows.specs.Places.{number-class, number-index, number-back, row-at-position, position-iff, position-middle}
 
 -- index i names row j of class c

@@ -1,13 +1,10 @@
 -- The rows stand in order: class, then cost, then ranks, coordinate 0 most significant. So no row stands twice. Assumes nothing.
 use mathlib.Core.Path.{_≡_, _∙_, refl, ap, sym}
-use mathlib.Core.List.{List}
 use Prim.Native.Nat.{ℕ, zero, suc, _+_, _*_, _/_, _^_, _<_}
 use native.Mathlib.Omega.{arith}
 use lib.Dec.{T}
-use lib.ListN.{getD}
-use Rattle.laws.specs.Tables.{ascBy, asc-lt}
 use Rattle.laws.specs.Order.{Compared, less, same, more, trichotomy}
-use Rattle.rank.specs.Vector.{cost, class, unpack, before, boundCost, boundCut, middleCost, middleCut}
+use Rattle.rank.specs.Vector.{cost, class, before, boundCost, boundCut, middleCost, middleCut}
 use Rattle.rows.specs.Rows.{rows}
 use Rattle.rows.specs.Table.{rowRanks}
 use Rattle.rows.specs.Key.{key, key-order}

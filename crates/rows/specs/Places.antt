@@ -2,19 +2,19 @@
 use mathlib.Core.Path.{_≡_, _∙_, refl, ap, sym, subst}
 use mathlib.Core.Bool.{Bool, true, false, cond}
 use mathlib.Core.Logic.{_↔_, _⊎_, inl, inr}
-use mathlib.Core.List.{List, [], _∷_}
-use Prim.Native.Nat.{ℕ, zero, suc, _+_, _*_, _-_, _/_, _%_, _^_, _<_, _≤_}
+use mathlib.Core.List.{List}
+use Prim.Native.Nat.{ℕ, _+_, _*_, _-_, _/_, _%_, _^_, _<_, _≤_}
 use native.Mathlib.Decide.{decLt}
 use native.Mathlib.Omega.{arith}
 use lib.Dec.{T, ltb}
 use lib.ListN.{length, getD}
 use Rattle.laws.specs.Tests.{is-true}
 use Rattle.laws.specs.Lists.{standsAt, stands-there, stands-first, stands-le}
-use Rattle.rank.specs.Vector.{ranksBelow, class, pack, unpack, before, within, inClass, inMiddle, boundCost, boundCut}
+use Rattle.rank.specs.Vector.{ranksBelow, class, pack, unpack, before, inClass, inMiddle, boundCost, boundCut}
 use Rattle.rows.specs.Rows.{rows}
 use Rattle.rows.specs.Table.{rowRanks, maxRank, findOf, positionOf, middleRows}
-use Rattle.rows.specs.Vectors.{unpack-pack, pack-unpack, below-up, class-ranks, within-down}
-use Rattle.rows.specs.Rule.{count, row-length, row-class, row-within, row-middle, row-packed, row-ranks}
+use Rattle.rows.specs.Vectors.{unpack-pack, pack-unpack, below-up, within-down}
+use Rattle.rows.specs.Rule.{count, row-class, row-within, row-middle, row-packed, row-ranks}
 use Rattle.rows.specs.Order.{unique}
 use Rattle.rows.specs.Complete.{complete}
 

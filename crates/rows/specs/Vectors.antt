@@ -1,5 +1,5 @@
 -- Rank vectors: what packing keeps, and what a bound says of cost and ranks. Assumes nothing.
-use mathlib.Core.Path.{_≡_, _∙_, refl, ap, ap₂, sym}
+use mathlib.Core.Path.{_≡_, _∙_, refl, ap, ap₂}
 use mathlib.Core.Logic.{_⊎_, inl, inr}
 use mathlib.Core.List.{List, [], _∷_}
 use Prim.Native.Nat.{ℕ, zero, suc, _+_, _*_, _/_, _%_, _^_, _<_, _≤_}
@@ -9,8 +9,8 @@ use native.Mathlib.Omega.{arith}
 use lib.Dec.{T, ltb, lt→ltb, ltb→lt}
 use lib.ListN.{length, getD}
 use Rattle.laws.specs.Tests.{and-left, and-right, and-in}
-use Rattle.laws.specs.Order.{lexLe, lexLt, pick3-out, pick3-lt, pick3-eq, pick3-trans}
-use Rattle.rank.specs.Vector.{ranksBelow, sq, cost, pack, unpack, before, within, boundCost, boundCut, inClass, inMiddle, middleCost, middleCut}
+use Rattle.laws.specs.Order.{lexLe, lexLt, pick3-out, pick3-lt, pick3-trans}
+use Rattle.rank.specs.Vector.{ranksBelow, sq, cost, pack, unpack, before, within, boundCut, inClass, inMiddle, middleCost, middleCut}
 
 -- ---- ranks below b
 pub first-below : (b r : ℕ) (v : List ℕ) → T (ranksBelow b (r ∷ v)) → r < b

@@ -1,5 +1,5 @@
 -- `rows::middle_seat` meets its contract. Assumes nothing.
-use mathlib.Core.Path.{_≡_, sym, subst}
+use mathlib.Core.Path.{sym, subst}
 use Prim.Native.Nat.{ℕ, _<_, _≤_}
 use borrow.Author.Needs.{needs}
 use Rattle.rows.specs.Answers.{middle-used, middle-unused}

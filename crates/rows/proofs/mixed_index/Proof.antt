@@ -1,5 +1,5 @@
 -- `rows::mixed_index` meets its contract. Assumes nothing.
-use mathlib.Core.Path.{_≡_, sym, ap, _∙_}
+use mathlib.Core.Path.{sym, ap, _∙_}
 use borrow.Author.Needs.{needs}
 use Rattle.rows.specs.Table.{positionOf, classIndexOf, middleSeat, mixedIndexOf}
 use Rattle.rows.specs.Answers.{seat-fits}

@@ -1,14 +1,9 @@
 -- `rows::place_of` meets its contract: of the 2 ^ d rows from lo on, one is w if any row is. Assumes nothing.
 use mathlib.Core.Path.{_≡_, sym, ap, subst, _∙_}
-use Prim.Native.Nat.{ℕ, suc, _+_, _*_, _-_, _^_, _≤_, _<_}
-use native.Mathlib.Nat.{pow-suc}
+use Prim.Native.Nat.{ℕ, _*_, _-_, _≤_}
 use native.Mathlib.Omega.{arith}
 use borrow.Author.Needs.{needs}
-use lib.ListN.{getD}
-use lib.Pow.{pow-pos}
-use Rattle.rank.specs.Vector.{class, unpack}
-use Rattle.rows.specs.Rows.{rows}
-use Rattle.rows.specs.Table.{rowRanks}
+use Rattle.rank.specs.Vector.{unpack}
 use Rattle.rows.specs.Key.{key}
 use Rattle.rows.proofs.Search.{Around, all-of-class, last, turn-up, turn-down}
 use Rattle.rows.proofs.place_of.Statement.{statement}
