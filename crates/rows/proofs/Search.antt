@@ -46,7 +46,8 @@ module _ (w lo d : ℕ) (a : Around w lo (suc d)) where
   one-class : (i : ℕ) → lo ≤ i → i < lo + 2 ^ suc d → i / 2048 ≡ (lo + 2 ^ d) / 2048
   one-class i l h = block (class (unpack 8 w)) lo i (lo + 2 ^ d) (lo + 2 ^ suc d) (a .start) l (omega arith) h room (a .stop)
     where
-      block : (c lo i m hi : ℕ) → 2048 * c ≤ lo → lo ≤ i → lo ≤ m → i < hi → m < 2048 * c + 2048 → hi ≤ 2048 * c + 2048 → i / 2048 ≡ m / 2048
+      block : (c lo i m hi : ℕ) → 2048 * c ≤ lo → lo ≤ i → lo ≤ m → i < hi → m < 2048 * c + 2048 → hi ≤ 2048 * c + 2048
+          → i / 2048 ≡ m / 2048
       block c lo i m hi p q r s t u = omega arith
 
   -- row i is w

@@ -153,6 +153,7 @@ mixed-index-none v e n = go (row-or-none v e)
     unused : (p : ℕ) → p < 4096 → rowRanks p ≡ v → Dec (p % 2048 < middleRows (p / 2048)) → mixedIndexOf v ≡ Nothing
     unused p h q (yes u) = absurd (n (used-row v p h q u))
     unused p h q (no u) = ap middleSeat (class-index-at v p h q) ∙ middle-unused (p / 2048) (p % 2048) (omega arith)
+
     go : Dec (IsRow v) → mixedIndexOf v ≡ Nothing
     go (yes (p, h, q)) = unused p h q (decLt (p % 2048) (middleRows (p / 2048)))
     go (no k) = ap middleSeat (class-index-none v e k)

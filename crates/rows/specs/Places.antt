@@ -161,6 +161,7 @@ find-position w h = go (row-or-none (unpack 8 w) refl)
   where
     packed-is : (r : IsRow (unpack 8 w)) → getD rows (r .0) 0 ≡ w
     packed-is r = sym (row-packed (r .0) (r .1)) ∙ ap pack (r .2) ∙ pack-unpack 8 w h
+
     go : Dec (IsRow (unpack 8 w)) → findOf w ≡ positionOf (unpack 8 w)
     go (yes r) = find-at w (r .0) (r .1) (packed-is r) ∙ sym (position-is (unpack 8 w) (r .0) (r .1) (r .2))
     go (no n) =

@@ -44,6 +44,7 @@ unpack-pack (r ∷ v) s =
   where
     low : r < 16 → (r + 16 * pack v) % 16 ≡ r
     low h = omega arith
+
     high : r < 16 → (r + 16 * pack v) / 16 ≡ pack v
     high h = omega arith
 
