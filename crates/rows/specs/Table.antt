@@ -37,6 +37,7 @@ positionOf v = cond (ranksBelow (maxRank + 1) v) (findOf (pack v)) 4096
 unfoldable pub seatAt : ℕ → Seated
 seatAt p = cond (ltb p 4096) (At (p / 2048) (p % 2048)) Nothing
 
+-- the class of the row that v is, and its index there
 unfoldable pub classIndexOf : List ℕ → Seated
 classIndexOf v = seatAt (positionOf v)
 
@@ -61,6 +62,7 @@ unfoldable pub middleSeat : Seated → Seated
 middleSeat (At c i) = cond (ltb i (middleRows c)) (At c (i + 1240 * c)) Nothing
 middleSeat Nothing = Nothing
 
+-- the class of the middle's row that v is, and the middle's index of it
 unfoldable pub mixedIndexOf : List ℕ → Seated
 mixedIndexOf v = middleSeat (classIndexOf v)
 

@@ -14,13 +14,13 @@ ghost use Rattle.rows.specs.Key.{key};
 pub const MAX_RANK: u32 = 4;
 
 // Rows of the table: two classes.
-pub const ROWS: usize = 4096;
+pub const ROWS: u32 = 4096;
 
 // Rows per class.
-pub const CLASS_ROWS: usize = 2048;
+pub const CLASS_ROWS: u32 = 2048;
 
 // Rows of class 0 among the middle section's 2,048.
-pub const N0_MIXED: u16 = 1240;
+pub const N0_MIXED: u32 = 1240;
 
 // Where a rank vector stands: a class and an index, or nowhere.
 pub enum Seated {
@@ -32,7 +32,7 @@ pub enum Seated {
 pub fn row(i: usize) -> u32
     ensures { λ r. ⌜ r ≡ getD rows i 0 ⌝ }
 {
-    if i < ROWS {
+    if i < ROWS as usize {
         return table::TABLE[i];
     }
     0
@@ -46,6 +46,7 @@ fn rank_at(w: u32, j: u32) -> u32
     (w >> (4 * j)) & 15
 }
 
+// The cost of one rank.
 fn square(r: u32) -> u32
     requires { ⌜ r < 16 ⌝ }
     ensures { λ q. ⌜ (q ≡ sq r) × (q ≤ 961) ⌝ }
@@ -92,6 +93,7 @@ fn class_of(w: u32) -> u32
     sum % 2
 }
 
+// Half of what a search still has before it, d halvings from the end.
 fn bit(d: u32) -> usize
     requires { ⌜ d < 11 ⌝ }
     ensures { λ r. ⌜ (r ≡ 2 ^ d) × (r < 2048) ⌝ }
@@ -104,7 +106,7 @@ fn place_of(w: u32) -> usize
     ensures { λ r. ⌜ (r < 4096) × ((i : ℕ) → i < 4096 → getD rows i 0 ≡ w → i ≡ r) ⌝ }
 {
     let k = key_of(w);
-    let mut lo: usize = CLASS_ROWS * (class_of(w) as usize);
+    let mut lo = (CLASS_ROWS * class_of(w)) as usize;
     let mut d: u32 = 11;
     while 0 < d {
         d -= 1;
@@ -124,7 +126,7 @@ pub fn find(w: u32) -> u32
     if row(i) == w {
         return i as u32;
     }
-    4096
+    ROWS
 }
 
 // Whether no rank is above the largest.
@@ -155,13 +157,14 @@ fn packed(rho: [u32; 8]) -> u32
     acc
 }
 
+// The class and the index of row `p`, if there is one.
 fn seat_at(p: u32) -> Seated
     ensures { λ r. ⌜ r ≡ seatAt p ⌝ }
 {
-    if p < 4096 {
+    if p < ROWS {
         return Seated::At {
-            class: p / 2048,
-            index: (p % 2048) as u16,
+            class: p / CLASS_ROWS,
+            index: (p % CLASS_ROWS) as u16,
         };
     }
     Seated::Nothing
@@ -178,13 +181,13 @@ pub fn class_index(rho: [u32; 8]) -> Seated
 }
 
 // How many rows of a class the middle section uses.
-fn middle_rows(class: u32) -> u16
+fn middle_rows(class: u32) -> u32
     ensures { λ r. ⌜ r ≡ middleRows class ⌝ }
 {
     if class == 0 {
         return N0_MIXED;
     }
-    2048 - N0_MIXED
+    CLASS_ROWS - N0_MIXED
 }
 
 // From a class and the index in it to the middle section's index.
@@ -192,10 +195,10 @@ fn middle_seat(class: u32, index: u16) -> Seated
     requires { ⌜ (class < 2) × (index < 2048) ⌝ }
     ensures { λ r. ⌜ r ≡ middleSeat (Seated.At class index) ⌝ }
 {
-    if index < middle_rows(class) {
+    if (index as u32) < middle_rows(class) {
         return Seated::At {
             class,
-            index: index + N0_MIXED * (class as u16),
+            index: ((index as u32) + N0_MIXED * class) as u16,
         };
     }
     Seated::Nothing

@@ -9,14 +9,14 @@ use Rattle.rows.proofs.middle_seat.Tie as tie
 middle-rows-requires : tie.Need-middle-rows-requires
 middle-rows-requires c κs = search needs
 
-cast-t5 : tie.Need-cast-t5
-cast-t5 c = search needs
+mul-t7 : tie.Need-mul-t7
+mul-t7 c = search needs
 
-mul-t6 : tie.Need-mul-t6
-mul-t6 c = search needs
+add-t8 : tie.Need-add-t8
+add-t8 c = search needs
 
-add-t7 : tie.Need-add-t7
-add-t7 c = search needs
+cast-t9 : tie.Need-cast-t9
+cast-t9 c = search needs
 
 returns : tie.Need-returns
 returns c =
@@ -29,4 +29,4 @@ returns-2 c =
     sym (middle-unused (a .class) (a .index) (subst (λ (n : ℕ). n ≤ a .index) (c .before .middle-rows .ensures) (c .if1 .left)))
 
 pub middle-seat-spec : {M : Type 1} → statement M
-middle-seat-spec = tie.close (tie.spec middle-rows-requires cast-t5 mul-t6 add-t7 returns returns-2)
+middle-seat-spec = tie.close (tie.spec middle-rows-requires mul-t7 add-t8 cast-t9 returns returns-2)

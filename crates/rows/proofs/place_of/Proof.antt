@@ -21,11 +21,11 @@ key-of-requires c κs = search needs
 class-of-requires : tie.Need-class-of-requires Inv-loop μ-loop
 class-of-requires c κs = search needs
 
-cast-lo : tie.Need-cast-lo Inv-loop μ-loop
-cast-lo c = search needs
-
 mul-lo : tie.Need-mul-lo Inv-loop μ-loop
 mul-lo c = omega (arith, c .class-of .ensures .1)
+
+cast-lo : tie.Need-cast-lo Inv-loop μ-loop
+cast-lo c = omega (arith, c .class-of .ensures .1)
 
 loop-holds : tie.Need-loop-holds Inv-loop μ-loop
 loop-holds c =
@@ -92,8 +92,8 @@ place-of-spec =
     μ-loop
     key-of-requires
     class-of-requires
-    cast-lo
     mul-lo
+    cast-lo
     loop-holds
     sub-d
     bit-requires

@@ -8,6 +8,9 @@ use Rattle.rows.specs.Rule.{count}
 use Rattle.rows.proofs.row.Statement.{statement}
 use Rattle.rows.proofs.row.Tie as tie
 
+cast-if1 : tie.Need-cast-if1
+cast-if1 c = search needs
+
 mul-result : tie.Need-mul-result
 mul-result c = search needs
 
@@ -22,4 +25,4 @@ returns-2 : tie.Need-returns-2
 returns-2 c = sym (List·getD-eq-default rows 0 (omega (arith, count)))
 
 pub row-spec : {M : Type 1} → statement M
-row-spec = tie.close (tie.spec mul-result array-read-result returns returns-2)
+row-spec = tie.close (tie.spec cast-if1 mul-result array-read-result returns returns-2)
