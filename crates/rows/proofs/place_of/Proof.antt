@@ -1,6 +1,7 @@
 -- `rows::place_of` meets its contract: of the 2 ^ d rows from lo on, one is w if any row is. Assumes nothing.
 use mathlib.Core.Path.{_≡_, sym, ap, subst, _∙_}
 use Prim.Native.Nat.{ℕ, _*_, _-_, _≤_}
+use native.Mathlib.Nat.{le-of-lt}
 use native.Mathlib.Omega.{arith}
 use borrow.Author.Needs.{needs}
 use Rattle.rank.specs.Vector.{unpack}
@@ -8,6 +9,9 @@ use Rattle.rows.specs.Key.{key}
 use Rattle.rows.proofs.Search.{Around, all-of-class, last, turn-up, turn-down}
 use Rattle.rows.proofs.place_of.Statement.{statement}
 use Rattle.rows.proofs.place_of.Tie as tie
+
+down : (d : ℕ) → d ≤ 11 → d - 1 ≤ 11
+down d h = omega arith
 
 abbrev Inv-loop : tie.InvT-loop
 Inv-loop w k lo₀ d₀ lo d = (d ≤ 11) × (lo ≤ 4096) × Around w lo d
@@ -36,10 +40,10 @@ loop-holds c =
     )
 
 sub-d : tie.Need-sub-d Inv-loop μ-loop
-sub-d c = search needs
+sub-d c = omega arith
 
 bit-requires : tie.Need-bit-requires Inv-loop μ-loop
-bit-requires c κs = search needs
+bit-requires c κs = omega arith
 
 add-m : tie.Need-add-m Inv-loop μ-loop
 add-m c = omega (arith, c .bit .ensures .1, c .before .before .loop .inv .1)
@@ -51,31 +55,33 @@ key-of-requires-2 : tie.Need-key-of-requires-2 Inv-loop μ-loop
 key-of-requires-2 c κs = search needs
 
 loop-less : tie.Need-loop-less Inv-loop μ-loop
-loop-less c = search needs
+loop-less c = omega arith
 
 loop-again : tie.Need-loop-again Inv-loop μ-loop
 loop-again c =
-    let l = c .before .before .before .before .before .loop in
-    let s = c .before .before .before .before .before .before .before in
+    let i = c .before .before .before .before in
+    let l = i .before .loop in
+    let s = i .before .before .before in
     let b = c .before .before .before .bit in
     let k = c .before .key-of2 in
     let r = k .ensures ∙ ap (λ (x : ℕ). key (unpack 8 x)) (c .before .before .row .ensures) in
-    let t = turn-up (s .before .args .w) (l .lo) (l .d) (b .result) (s .key-of .result) (k .result) (l .inv .2) (omega arith) in
+    let t = turn-up (s .before .args .w) (l .lo) (l .d) (b .result) (s .key-of .result) (k .result) (l .inv .2) (i .loop-test .taken) in
     let u = t (b .ensures .0) (s .key-of .ensures) r (c .if1 .taken) in
-    (omega arith, omega (arith, u .0), u .1)
+    (down (l .d) (l .inv .0), le-of-lt (u .0), u .1)
 
 loop-less-2 : tie.Need-loop-less-2 Inv-loop μ-loop
-loop-less-2 c = search needs
+loop-less-2 c = omega arith
 
 loop-again-2 : tie.Need-loop-again-2 Inv-loop μ-loop
 loop-again-2 c =
-    let l = c .before .before .before .before .before .loop in
-    let s = c .before .before .before .before .before .before .before in
+    let i = c .before .before .before .before in
+    let l = i .before .loop in
+    let s = i .before .before .before in
     let b = c .before .before .before .bit in
     let k = c .before .key-of2 in
     let r = k .ensures ∙ ap (λ (x : ℕ). key (unpack 8 x)) (c .before .before .row .ensures) in
-    let t = turn-down (s .before .args .w) (l .lo) (l .d) (b .result) (s .key-of .result) (k .result) (l .inv .2) (omega arith) in
-    (omega arith, l .inv .1, t (b .ensures .0) (s .key-of .ensures) r (c .if1 .left))
+    let t = turn-down (s .before .args .w) (l .lo) (l .d) (b .result) (s .key-of .result) (k .result) (l .inv .2) (i .loop-test .taken) in
+    (down (l .d) (l .inv .0), l .inv .1, t (b .ensures .0) (s .key-of .ensures) r (c .if1 .left))
 
 returns : tie.Need-returns Inv-loop μ-loop
 returns c =
