@@ -4,6 +4,7 @@ use mathlib.Core.Logic.{_⊎_, inl, inr}
 use mathlib.Core.Bool.{Bool, true, false, not}
 use mathlib.Core.List.{List, [], _∷_}
 use Prim.Native.Nat.{ℕ, zero, suc, _+_, _<_, _≤_, compare, Ordering, Ordering·lt, Ordering·eq, Ordering·gt}
+use native.Mathlib.Decide.{decLt}
 use native.Mathlib.Omega.{arith}
 use lib.Dec.{T, isLe, isEq, leb→le, le→leb, eqb→eq, eqb-refl}
 use Rattle.laws.specs.Tests.{Says, says-by, true-is}
@@ -145,3 +146,16 @@ le-or-lt a b = go (compare a b) (compared a b)
     go Ordering·lt c = inl (omega arith)
     go Ordering·eq c = inl (omega arith)
     go Ordering·gt c = inr c
+-- ---- a number is below another, or is it, or is above it
+pub data Compared (a b : ℕ) : Type 0 where
+  less : a < b → Compared a b
+  same : a ≡ b → Compared a b
+  more : b < a → Compared a b
+
+pub trichotomy : (a b : ℕ) → Compared a b
+trichotomy a b = go (decLt a b) (decLt b a)
+  where
+    go : Dec (a < b) → Dec (b < a) → Compared a b
+    go (yes p) q = less p
+    go (no p) (yes q) = more q
+    go (no p) (no q) = same (omega arith)
