@@ -11,7 +11,8 @@ use Rattle.laws.specs.Trees.{Tree, build, get, get-build}
 use Rattle.rank.specs.Vector.{sq, cost, class, pack, unpack, inClass}
 use Rattle.rows.specs.Rows.{rows}
 use Rattle.rows.specs.Table.{rowRanks, IsRow}
-use Rattle.rows.specs.Vectors.{unpack-pack, below-up, length≤cost, rank-small, class-cost, class-ranks}
+use Rattle.rank.specs.VectorLaws.{unpack-pack}
+use Rattle.rows.specs.Vectors.{below-up, length≤cost, rank-small, class-cost, class-ranks}
 use Rattle.rows.specs.Rule.{tableKey}
 
 -- ---- a test at every vector of d ranks whose cost stays below K, s spent: coordinate by coordinate; a branch ends once its cost, each

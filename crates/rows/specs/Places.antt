@@ -13,7 +13,8 @@ use Rattle.laws.specs.Lists.{standsAt, stands-there, stands-first, stands-le}
 use Rattle.rank.specs.Vector.{ranksBelow, class, pack, unpack, before, inClass, inMiddle, boundCost, boundCut}
 use Rattle.rows.specs.Rows.{rows}
 use Rattle.rows.specs.Table.{rowRanks, IsRow, maxRank, findOf, positionOf, middleRows}
-use Rattle.rows.specs.Vectors.{unpack-pack, pack-unpack, below-up, within-down}
+use Rattle.rank.specs.VectorLaws.{unpack-pack, pack-unpack}
+use Rattle.rows.specs.Vectors.{below-up, within-down}
 use Rattle.rows.specs.Rule.{count, row-class, row-within, row-middle, row-packed, row-ranks}
 use Rattle.rows.specs.Order.{unique}
 use Rattle.rows.specs.Complete.{complete}

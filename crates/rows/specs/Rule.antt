@@ -11,7 +11,8 @@ use Rattle.laws.specs.Tables.{every, at, ascBy, asc-lt}
 use Rattle.rank.specs.Vector.{ranksBelow, class, pack, unpack, inClass, inMiddle}
 use Rattle.rows.specs.Rows.{rows}
 use Rattle.rows.specs.Table.{rowRanks, maxRank, middleRows}
-use Rattle.rows.specs.Vectors.{unpack-below, class-ranks}
+use Rattle.rank.specs.VectorLaws.{unpack-below}
+use Rattle.rows.specs.Vectors.{class-ranks}
 use Rattle.rows.specs.Key.{key}
 
 -- row i of class c has the ranks v, packed in w: its class is c, it meets the bound of c, it meets the middle's bound exactly where

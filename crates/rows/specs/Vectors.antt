@@ -1,4 +1,4 @@
--- Rank vectors: what packing keeps, and what a bound says of cost and ranks. Assumes nothing.
+-- Rank vectors: what a bound says of cost and ranks. Assumes nothing.
 use mathlib.Core.Path.{_≡_, _∙_, refl, ap, ap₂}
 use mathlib.Core.Logic.{_⊎_, inl, inr}
 use mathlib.Core.List.{List, [], _∷_}
@@ -10,17 +10,10 @@ use lib.Dec.{T, ltb, lt→ltb, ltb→lt}
 use lib.ListN.{length, getD}
 use Rattle.laws.specs.Tests.{and-left, and-right, and-in}
 use Rattle.laws.specs.Order.{lexLe, lexLt, pick3-out, pick3-lt, pick3-trans}
+use Rattle.rank.specs.VectorLaws.{rank-first, rank-rest}
 use Rattle.rank.specs.Vector.{ranksBelow, sq, cost, pack, unpack, before, within, boundCut, inClass, inMiddle, middleCost, middleCut}
 
 -- ---- ranks below b
-pub first-below : (b r : ℕ) (v : List ℕ) → T (ranksBelow b (r ∷ v)) → r < b
-unfolding ranksBelow
-first-below b r v t = ltb→lt r b (and-left (ltb r b) (ranksBelow b v) t)
-
-pub rest-below : (b r : ℕ) (v : List ℕ) → T (ranksBelow b (r ∷ v)) → T (ranksBelow b v)
-unfolding ranksBelow
-rest-below b r v t = and-right (ltb r b) (ranksBelow b v) t
-
 pub more-below : (b r : ℕ) (v : List ℕ) → r < b → T (ranksBelow b v) → T (ranksBelow b (r ∷ v))
 unfolding ranksBelow
 more-below b r v h t = and-in (ltb r b) (ranksBelow b v) (lt→ltb r b h) t
@@ -28,35 +21,12 @@ more-below b r v h t = and-in (ltb r b) (ranksBelow b v) (lt→ltb r b h) t
 pub below-up : (a b : ℕ) → a ≤ b → (v : List ℕ) → T (ranksBelow a v) → T (ranksBelow b v)
 unfolding ranksBelow
 below-up a b h [] t = tt
-below-up a b h (r ∷ v) t = more-below b r v (omega (arith, first-below a r v t)) (below-up a b h v (rest-below a r v t))
+below-up a b h (r ∷ v) t = more-below b r v (omega (arith, rank-first a r v t)) (below-up a b h v (rank-rest a r v t))
 
 pub below-at : (b : ℕ) (v : List ℕ) → T (ranksBelow b v) → (j : ℕ) → j < length v → getD v j 0 < b
 below-at b [] t j h = absurd (not-suc-le-zero h)
-below-at b (r ∷ v) t zero h = first-below b r v t
-below-at b (r ∷ v) t (suc j) h = below-at b v (rest-below b r v t) j (le-of-suc-le-suc h)
-
--- ---- packing
-pub unpack-pack : (v : List ℕ) → T (ranksBelow 16 v) → unpack (length v) (pack v) ≡ v
-unpack-pack [] s = refl
-unpack-pack (r ∷ v) s =
-    let h = first-below 16 r v s in
-    ap₂ {C = List ℕ} (λ a l. a ∷ l) (low h) (ap (unpack (length v)) (high h) ∙ unpack-pack v (rest-below 16 r v s))
-  where
-    low : r < 16 → (r + 16 * pack v) % 16 ≡ r
-    low h = omega arith
-
-    high : r < 16 → (r + 16 * pack v) / 16 ≡ pack v
-    high h = omega arith
-
-pub pack-unpack : (d w : ℕ) → w < 16 ^ d → pack (unpack d w) ≡ w
-pack-unpack zero w h = omega arith
-pack-unpack (suc d) w h =
-    ap (λ (x : ℕ). w % 16 + 16 * x) (pack-unpack d (w / 16) (omega (arith, pow-suc 16 d))) ∙ omega arith
-
-pub unpack-below : (d w : ℕ) → T (ranksBelow 16 (unpack d w))
-unfolding ranksBelow
-unpack-below zero w = tt
-unpack-below (suc d) w = more-below 16 (w % 16) (unpack d (w / 16)) (omega arith) (unpack-below d (w / 16))
+below-at b (r ∷ v) t zero h = rank-first b r v t
+below-at b (r ∷ v) t (suc j) h = below-at b v (rank-rest b r v t) j (le-of-suc-le-suc h)
 
 -- ---- cost
 pub sq-mono : (a r : ℕ) → a ≤ 2 * r + 1 → a * a ≤ sq r
