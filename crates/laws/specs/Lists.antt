@@ -18,7 +18,7 @@ use borrow.Author.Tests.{eq-eqb, eqb-true, lt-ltb, le-ltb, ltb-true, ltb-false}
 use lib.Dec.{eqb, ltb}
 use borrow.Author.Tests.{eqb-true, eq-eqb}
 use lib.Dec.{eqb}
-use lib.ListN.{length, getD, set, drop}
+use lib.ListN.{length, getD, set, drop, replicate}
 use lib.Seq.{getD-set-same, getD-set-other, drop-cons, sets}
 
 -- f 0, f 1, .., n of them. It stays shut: at a large n it would be written out wherever it stands
@@ -54,6 +54,12 @@ unfolding tab
 tab-at A d f zero k h = absurd (not-suc-le-zero h)
 tab-at A d f (suc n) zero h = refl
 tab-at A d f (suc n) (suc k) h = tab-at A d (λ (m : ℕ). f (suc m)) n k (le-of-suc-le-suc h)
+
+-- the same thing n times
+pub replicate-tab : (A : Type 0) (x : A) (n : ℕ) → replicate n x ≡ tab (λ (k : ℕ). x) n
+unfolding tab
+replicate-tab A x zero = refl
+replicate-tab A x (suc n) = ap (λ (l : List A). x ∷ l) (replicate-tab A x n)
 
 -- ---- taken apart
 -- what a loop has left at j is the element at j and what it has left at j + 1
@@ -179,6 +185,7 @@ pub place-of : (A : Type 0) (d x : A) (l : List A) → List·Memᴰ x l → (i :
 place-of A d x [] m = absurd (List·Memᴰ·not-nil m)
 place-of A d x (y ∷ l) (List·Memᴰ·head e) = (0, zero-lt-suc (length l), sym e)
 place-of A d x (y ∷ l) (List·Memᴰ·tail m) = let p = place-of A d x l m in (suc (p .0), suc-le-suc (p .1), p .2)
+
 -- ---- where a number stands in a list: its first place there, and the list's length where it is not there
 abbrev pub standsAt : ℕ → List ℕ → ℕ
 standsAt x [] = 0

@@ -90,6 +90,7 @@ lexLt-trans (x ∷ u) (y ∷ v) (z ∷ w) s t = pick3-trans x y z (lexLt u v) (l
 pub lexLt-irrefl : (v : List ℕ) → T (lexLt v v) → ⊥
 lexLt-irrefl [] t = t
 lexLt-irrefl (x ∷ v) t = lexLt-irrefl v (subst T (pick3-same x x (lexLt v v) refl) t)
+
 -- ---- the same order as a statement: the first place at which the two differ decides
 unfoldable pub LexLe : List ℕ → List ℕ → Type 0
 LexLe [] w = Unit
@@ -122,6 +123,7 @@ unfolding Says LexLe
 lexLe-says [] w = tt
 lexLe-says (x ∷ v) [] = λ z. z
 lexLe-says (x ∷ v) (y ∷ w) = pick3-says x y (lexLe v w) (LexLe v w) (lexLe-says v w)
+
 -- ---- what a comparison of two numbers says
 abbrev pub Ordered : Ordering → ℕ → ℕ → Type 0
 Ordered Ordering·lt a b = a < b
@@ -146,6 +148,7 @@ le-or-lt a b = go (compare a b) (compared a b)
     go Ordering·lt c = inl (omega arith)
     go Ordering·eq c = inl (omega arith)
     go Ordering·gt c = inr c
+
 -- ---- a number is below another, or is it, or is above it
 pub data Compared (a b : ℕ) : Type 0 where
   less : a < b → Compared a b

@@ -123,3 +123,13 @@ below (suc n) f t (suc k) h =
 -- the same in two numbers
 pub below2 : (n m : ℕ) (f : ℕ → ℕ → Bool) → T (upto n (λ (a : ℕ). upto m (f a))) → (a b : ℕ) → a < n → b < m → T (f a b)
 below2 n m f t a b ha hb = below m (f a) (below n (λ (x : ℕ). upto m (f x)) t a ha) b hb
+
+-- ---- a choice by a test
+pub cond-same : (A : Type 0) (b : Bool) (x : A) → cond b x x ≡ x
+cond-same A true x = refl
+cond-same A false x = refl
+
+-- a function of the chosen one is the chosen one of its values
+pub cond-ap : (A B : Type 0) (f : A → B) (b : Bool) (x y : A) → cond b (f x) (f y) ≡ f (cond b x y)
+cond-ap A B f true x y = refl
+cond-ap A B f false x y = refl

@@ -1,0 +1,1 @@
+// The rounding records of a section, and the same as flat rows.

@@ -1,0 +1,237 @@
+// The best path by the entries' values, and the best path through each entry: `join` and the pass over the paths of `solve_parity` of
+// encoder.rs. The inner functions read the entries' values from flat rows, and the two tables of branches by reference. Each of them says
+// what it computes of any entries that have these values.
+ghost use mathlib.Core.Path.{_≡_};
+ghost use mathlib.Core.Bool.{cond, _&&_};
+ghost use Prim.Native.Nat.{_<_, _%_};
+ghost use lib.Ieee.{lt, le};
+ghost use Rattle.trellis.specs.Tables.{nexts};
+ghost use Rattle.search.specs.Tables.{branchEntries, tables};
+ghost use Rattle.search.specs.Solve.{infinity};
+ghost use Rattle.search.specs.Join.{Sides, midAt, lastAt, entAt, rowTo, joinTo, join};
+ghost use Rattle.search.specs.Parity.{lower, boundsTo};
+ghost use Rattle.join.specs.Flat.{Values, Exacts, ValuesOf, ExactsOf};
+use search::Bounds;
+use search::Entry;
+use search::Way;
+
+mod tables;
+
+// What every cost is below.
+fn infinite() -> f64
+    ensures { λ r. ⌜ r ≡ infinity ⌝ }
+{
+    f64::from_bits(0x7ff0_0000_0000_0000)
+}
+
+// The middle entry of path t out of end entry i1.
+fn mid_at(ix: &[u8; 1024], i1: usize, t: usize) -> usize
+    requires { ⌜ t < 32 ⌝ }
+    requires { ⌜ now ix ≡ branchEntries ⌝ }
+    ensures { λ r. ⌜ (r ≡ midAt tables i1 t) × (r < 256) ⌝ }
+{
+    2 * (ix[i1 % 64 * 16 + t / 2] as usize) + t % 2
+}
+
+// Its last entry, of class p xor r xor the middle class; r is i1 / 64.
+fn last_at(p: usize, nx: &[u8; 1024], i1: usize, t: usize) -> usize
+    requires { ⌜ (p < 2) × (t < 32) ⌝ }
+    requires { ⌜ now nx ≡ nexts ⌝ }
+    ensures { λ r. ⌜ (r ≡ lastAt tables p i1 t) × (r < 128) ⌝ }
+{
+    (p + i1 / 64 + t % 2) % 2 * 64 + (nx[i1 % 64 * 16 + t / 2] as usize)
+}
+
+// ---- the entries' fields as flat rows
+fn end_values(e: [Entry; 128]) -> [f64; 128]
+    ensures { λ r. ⌜ Values 128 e r ⌝ }
+{
+    let mut v = [0.0f64; 128];
+    for i in 0..128usize {
+        v[i] = e[i].value;
+    }
+    v
+}
+
+fn mid_values(e: [Entry; 256]) -> [f64; 256]
+    ensures { λ r. ⌜ Values 256 e r ⌝ }
+{
+    let mut v = [0.0f64; 256];
+    for i in 0..256usize {
+        v[i] = e[i].value;
+    }
+    v
+}
+
+fn end_exacts(e: [Entry; 128]) -> [bool; 128]
+    ensures { λ r. ⌜ Exacts 128 e r ⌝ }
+{
+    let mut x = [false; 128];
+    for i in 0..128usize {
+        x[i] = e[i].exact;
+    }
+    x
+}
+
+fn mid_exacts(e: [Entry; 256]) -> [bool; 256]
+    ensures { λ r. ⌜ Exacts 256 e r ⌝ }
+{
+    let mut x = [false; 256];
+    for i in 0..256usize {
+        x[i] = e[i].exact;
+    }
+    x
+}
+
+// ---- the join
+// The best of a way and the 32 paths out of end entry i1, replaced on strictly less.
+fn row(
+    p: usize,
+    ix: &[u8; 1024],
+    nx: &[u8; 1024],
+    v1: &[f64; 128],
+    v2: &[f64; 256],
+    v3: &[f64; 128],
+    i1: usize,
+    way: Way,
+) -> Way
+    requires { ⌜ (p < 2) × (i1 < 128) ⌝ }
+    requires { ⌜ (now ix ≡ branchEntries) × (now nx ≡ nexts) ⌝ }
+    ensures { λ r. ⌜ ((s : Sides) → ValuesOf s (now (v1 .entry)) (now (v2 .entry)) (now (v3 .entry)) → r ≡ rowTo tables p s i1 way 32) ⌝ }
+{
+    let a = v1[i1];
+    let mut best = way;
+    for t in 0..32usize {
+        let i2 = mid_at(ix, i1, t);
+        let i3 = last_at(p, nx, i1, t);
+        let cost = a + v2[i2] + v3[i3];
+        if cost < best.cost {
+            best = Way { cost, i1, i2, i3 };
+        }
+    }
+    best
+}
+
+// The same, but an end entry whose own value is no less than the best cost is passed over.
+fn entered(
+    p: usize,
+    ix: &[u8; 1024],
+    nx: &[u8; 1024],
+    v1: &[f64; 128],
+    v2: &[f64; 256],
+    v3: &[f64; 128],
+    i1: usize,
+    best: Way,
+) -> Way
+    requires { ⌜ (p < 2) × (i1 < 128) ⌝ }
+    requires { ⌜ (now ix ≡ branchEntries) × (now nx ≡ nexts) ⌝ }
+    ensures { λ r. ⌜ ((s : Sides) → ValuesOf s (now (v1 .entry)) (now (v2 .entry)) (now (v3 .entry)) → r ≡ cond (le (best .cost) (entAt (s .e1) i1 .value)) best (rowTo tables p s i1 best 32)) ⌝ }
+{
+    if v1[i1] >= best.cost {
+        best
+    } else {
+        row(p, ix, nx, v1, v2, v3, i1, best)
+    }
+}
+
+// The best path out of the 128 end entries.
+fn best_way(
+    p: usize,
+    ix: &[u8; 1024],
+    nx: &[u8; 1024],
+    v1: &[f64; 128],
+    v2: &[f64; 256],
+    v3: &[f64; 128],
+) -> Way
+    requires { ⌜ p < 2 ⌝ }
+    requires { ⌜ (now ix ≡ branchEntries) × (now nx ≡ nexts) ⌝ }
+    ensures { λ r. ⌜ ((s : Sides) → ValuesOf s (now (v1 .entry)) (now (v2 .entry)) (now (v3 .entry)) → r ≡ joinTo tables p s 128) ⌝ }
+{
+    let mut best = Way {
+        cost: infinite(),
+        i1: 0,
+        i2: 0,
+        i3: 0,
+    };
+    for i1 in 0..128usize {
+        best = entered(p, ix, nx, v1, v2, v3, i1, best);
+    }
+    best
+}
+
+// The best path by the entries' values, of parity p % 2.
+pub fn join(p: u32, e1: [Entry; 128], e2: [Entry; 256], e3: [Entry; 128]) -> Way
+    ensures { λ r. ⌜ (r ≡ join tables (p % 2) (record { e1 = e1; e2 = e2; e3 = e3 })) × ((r .i1 < 128) × ((r .i2 < 256) × (r .i3 < 128))) ⌝ }
+{
+    let ix = tables::branch_entries();
+    let nx = tables::next_states();
+    let v1 = end_values(e1);
+    let v2 = mid_values(e2);
+    let v3 = end_values(e3);
+    best_way((p % 2) as usize, &ix, &nx, &v1, &v2, &v3)
+}
+
+// ---- the bounds
+// The lower of two costs; the first where neither is.
+fn lowest(a: f64, b: f64) -> f64
+    ensures { λ r. ⌜ r ≡ lower a b ⌝ }
+{
+    if b < a { b } else { a }
+}
+
+// The cost of a path whose three entries are exact, where it is below u; else u.
+fn exact_cost(exact: bool, cost: f64, u: f64) -> f64
+    ensures { λ r. ⌜ r ≡ cond (exact && lt cost u) cost u ⌝ }
+{
+    if exact & (cost < u) { cost } else { u }
+}
+
+// The pass over the 4,096 paths: each lowers the bound of its three entries.
+fn bounds_over(
+    p: usize,
+    ix: &[u8; 1024],
+    nx: &[u8; 1024],
+    v1: &[f64; 128],
+    v2: &[f64; 256],
+    v3: &[f64; 128],
+    x1: &[bool; 128],
+    x2: &[bool; 256],
+    x3: &[bool; 128],
+    u0: f64,
+) -> Bounds
+    requires { ⌜ p < 2 ⌝ }
+    requires { ⌜ (now ix ≡ branchEntries) × (now nx ≡ nexts) ⌝ }
+    ensures { λ r. ⌜ ((s : Sides) → ValuesOf s (now (v1 .entry)) (now (v2 .entry)) (now (v3 .entry)) → ExactsOf s (now (x1 .entry)) (now (x2 .entry)) (now (x3 .entry)) → r ≡ boundsTo tables p s u0 4096) ⌝ }
+{
+    let top = infinite();
+    let mut u = u0;
+    let mut b1 = [top; 128];
+    let mut b2 = [top; 256];
+    let mut b3 = [top; 128];
+    for n in 0..4096usize {
+        let i1 = n / 32;
+        let i2 = mid_at(ix, i1, n % 32);
+        let i3 = last_at(p, nx, i1, n % 32);
+        let cost = v1[i1] + v2[i2] + v3[i3];
+        u = exact_cost(x1[i1] & (x2[i2] & x3[i3]), cost, u);
+        b1[i1] = lowest(b1[i1], cost);
+        b2[i2] = lowest(b2[i2], cost);
+        b3[i3] = lowest(b3[i3], cost);
+    }
+    Bounds { u, b1, b2, b3 }
+}
+
+// The best path through each entry, and u lowered to the best path whose three entries are exact, of parity p % 2.
+pub fn bounds(p: u32, e1: [Entry; 128], e2: [Entry; 256], e3: [Entry; 128], u: f64) -> Bounds
+    ensures { λ r. ⌜ r ≡ boundsTo tables (p % 2) (record { e1 = e1; e2 = e2; e3 = e3 }) u 4096 ⌝ }
+{
+    let ix = tables::branch_entries();
+    let nx = tables::next_states();
+    let v1 = end_values(e1);
+    let v2 = mid_values(e2);
+    let v3 = end_values(e3);
+    let x1 = end_exacts(e1);
+    let x2 = mid_exacts(e2);
+    let x3 = end_exacts(e3);
+    bounds_over((p % 2) as usize, &ix, &nx, &v1, &v2, &v3, &x1, &x2, &x3, u)
+}

@@ -1,0 +1,3 @@
+pub mod Flat
+pub mod Ranges
+pub mod FlatLaws
