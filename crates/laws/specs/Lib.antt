@@ -5,3 +5,4 @@ pub mod Lists
 pub mod Order
 pub mod Xor
 pub mod Whole
+pub mod Bits

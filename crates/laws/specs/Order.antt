@@ -6,6 +6,7 @@ use mathlib.Core.List.{List, [], _∷_}
 use Prim.Native.Nat.{ℕ, zero, suc, _+_, _<_, _≤_, compare, Ordering, Ordering·lt, Ordering·eq, Ordering·gt}
 use native.Mathlib.Omega.{arith}
 use lib.Dec.{T, isLe, isEq, leb→le, le→leb, eqb→eq, eqb-refl}
+use Rattle.laws.specs.Tests.{Says, says-by, true-is}
 
 -- smaller: yes; equal: as the rest says; greater: no
 abbrev pub pick3 : Ordering → Bool → Bool
@@ -86,3 +87,34 @@ lexLt-trans (x ∷ u) (y ∷ v) (z ∷ w) s t = pick3-trans x y z (lexLt u v) (l
 pub lexLt-irrefl : (v : List ℕ) → T (lexLt v v) → ⊥
 lexLt-irrefl [] t = t
 lexLt-irrefl (x ∷ v) t = lexLt-irrefl v (subst T (pick3-same x x (lexLt v v) refl) t)
+-- ---- the same order as a statement: the first place at which the two differ decides
+unfoldable pub LexLe : List ℕ → List ℕ → Type 0
+LexLe [] w = Unit
+LexLe (x ∷ v) [] = ⊥
+LexLe (x ∷ v) (y ∷ w) = (x < y) ⊎ ((x ≡ y) × LexLe v w)
+
+pub pick3-says : (a b : ℕ) (p : Bool) (P : Type 0) → Says p P → Says (pick3 (compare a b) p) ((a < b) ⊎ ((a ≡ b) × P))
+unfolding Says
+pick3-says a b p P s = says-by (pick3 (compare a b) p) ((a < b) ⊎ ((a ≡ b) × P)) (λ e. out (pick3-out a b p (true-is _ e))) back
+  where
+    so : (p : Bool) → Says p P → T p → P
+    so true s t = s
+    so false s t = absurd t
+
+    nor : (p : Bool) → Says p P → p ≡ false → P → ⊥
+    nor true s e x = subst T e tt
+    nor false s e x = s x
+
+    out : (a < b) ⊎ ((a ≡ b) × T p) → (a < b) ⊎ ((a ≡ b) × P)
+    out (inl h) = inl h
+    out (inr h) = inr (h .0, so p s (h .1))
+
+    back : pick3 (compare a b) p ≡ false → (a < b) ⊎ ((a ≡ b) × P) → ⊥
+    back e (inl h) = subst T e (pick3-lt a b p h)
+    back e (inr h) = nor p s (sym (pick3-same a b p (h .0)) ∙ e) (h .1)
+
+pub lexLe-says : (v w : List ℕ) → Says (lexLe v w) (LexLe v w)
+unfolding Says LexLe
+lexLe-says [] w = tt
+lexLe-says (x ∷ v) [] = λ z. z
+lexLe-says (x ∷ v) (y ∷ w) = pick3-says x y (lexLe v w) (LexLe v w) (lexLe-says v w)

@@ -1,2 +1,9 @@
 pub mod Coord
 pub mod Vector
+pub mod Section
+pub mod Answers
+pub mod RankOrder
+pub mod CoordLaws
+pub mod VectorLaws
+pub mod SectionLaws
+pub mod LookupLaws

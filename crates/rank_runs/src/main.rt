@@ -1,0 +1,151 @@
+// Prints what the functions of rank answer on document 01's examples and at the edges of what they take.
+use rank::Bound;
+use rank::Ranked;
+
+fn text(t: &[u8]) {
+    io::write_all(1, t);
+}
+
+// A number after a label.
+fn part(label: &[u8], n: u32) {
+    text(label);
+    io::print_decimal(1, n as u64);
+}
+
+fn magnitude(n: i32) -> u32 {
+    if n < 0 { (-1 - n) as u32 + 1 } else { n as u32 }
+}
+
+// A number with its sign after a label.
+fn signed_part(label: &[u8], n: i32) {
+    text(label);
+    if n < 0 {
+        text(b"-");
+    }
+    io::print_decimal(1, magnitude(n) as u64);
+}
+
+fn ranks(rho: [u32; 8]) {
+    part(b" ", rho[0]);
+    part(b" ", rho[1]);
+    part(b" ", rho[2]);
+    part(b" ", rho[3]);
+    part(b" ", rho[4]);
+    part(b" ", rho[5]);
+    part(b" ", rho[6]);
+    part(b" ", rho[7]);
+}
+
+fn show_val(o: u32, rho: u32) {
+    part(b"val ", o);
+    part(b" ", rho);
+    let v = rank::val(o, rho);
+    part(b": number ", v.number);
+    signed_part(b" value ", v.value);
+    text(b"\n");
+}
+
+fn show_rank(o: u32, y: i32) {
+    part(b"rank_of ", o);
+    signed_part(b" ", y);
+    match rank::rank_of(o, y) {
+        Ranked::Rank(rho) => part(b": rank ", rho),
+        Ranked::Nothing => text(b": none"),
+        Ranked::Refused => text(b": refused 7"),
+    }
+    text(b"\n");
+}
+
+fn show_class(rho: [u32; 8]) {
+    text(b"rank_class");
+    ranks(rho);
+    let a = rank::rank_class(rho);
+    part(b": number ", a.number);
+    part(b" class ", a.class);
+    text(b"\n");
+}
+
+fn show_cost(rho: [u32; 8]) {
+    text(b"cost");
+    ranks(rho);
+    let a = rank::cost(rho);
+    part(b": number ", a.number);
+    part(b" cost ", a.cost);
+    text(b"\n");
+}
+
+fn show_held(name: &[u8], b: Bound, rho: [u32; 8]) {
+    text(name);
+    ranks(rho);
+    let a = b.contains(rho);
+    part(b": number ", a.number);
+    if a.held {
+        text(b" yes\n");
+    } else {
+        text(b" no\n");
+    }
+}
+
+fn show_coordinate(y: i32) {
+    signed_part(b"coordinate ", y);
+    part(b": residue ", rank::residue(y));
+    part(b" parity ", rank::parity(y));
+    part(b" bit ", rank::bit(y));
+    part(b" mark ", rank::mark(y));
+    text(b"\n");
+}
+
+fn show_pack(rho: [u32; 8]) {
+    text(b"pack");
+    ranks(rho);
+    let row = rank::pack(rho);
+    text(b": ");
+    io::print_hex(1, row as u64, 8);
+    text(b" unpacks to");
+    ranks(rank::unpack(row));
+    text(b"\n");
+}
+
+fn values() {
+    show_val(0, 0);
+    show_val(0, 1);
+    show_val(0, 2);
+    show_val(3, 0);
+    show_val(3, 7);
+    show_val(4, 0);
+    show_val(0, 8);
+    show_rank(0, -4);
+    show_rank(1, -3);
+    show_rank(1, -4);
+    show_rank(0, 16);
+    show_rank(0, -16);
+    show_rank(4, 0);
+    show_coordinate(-3);
+    show_coordinate(12);
+    show_coordinate(-16);
+    show_coordinate(-2147483648);
+}
+
+fn vectors() {
+    let odd = [3, 0, 0, 0, 1, 1, 0, 0];
+    show_cost(odd);
+    show_class(odd);
+    show_held(b"middle", rank::MIXED_BOUND, odd);
+    show_held(b"class 0", rank::class_bound(0), odd);
+    show_held(b"middle", rank::mixed_bound(), [1, 1, 1, 1, 1, 1, 1, 1]);
+    show_held(b"middle", rank::mixed_bound(), [3, 0, 0, 0, 1, 0, 1, 0]);
+    show_held(b"class 1", rank::class_bound(1), [0, 0, 2, 2, 2, 0, 1, 1]);
+    show_held(b"class 1", rank::class_bound(1), [0, 0, 2, 2, 2, 0, 1, 2]);
+    show_class([0, 0, 0, 0, 0, 0, 0, 7]);
+    show_class([0, 0, 0, 0, 0, 0, 0, 8]);
+    show_cost([15, 15, 15, 15, 15, 15, 15, 15]);
+    show_cost([16, 0, 0, 0, 0, 0, 0, 0]);
+    show_held(b"middle", rank::mixed_bound(), [0, 0, 0, 0, 0, 0, 0, 16]);
+    show_pack([1, 2, 3, 4, 0, 0, 0, 15]);
+    show_pack([16, 0, 0, 0, 0, 0, 0, 17]);
+}
+
+fn main() {
+    values();
+    vectors();
+}
