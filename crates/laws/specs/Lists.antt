@@ -2,10 +2,16 @@
 use mathlib.Core.Path.{_≡_, refl, ap, ap₂, sym, _∙_}
 use mathlib.Core.List.{List, [], _∷_, _++_, List·Memᴰ, List·Memᴰ·head, List·Memᴰ·tail, List·Memᴰ·not-nil}
 use Prim.Native.Nat.{ℕ, zero, suc, _+_, _-_, _<_, _≤_, suc-le-suc}
+use mathlib.Core.Path.{_≡_, refl, ap, ap₂, sym, subst, _∙_}
+use mathlib.Core.Bool.{Bool, true, false}
+use mathlib.Core.List.{List, [], _∷_, _++_}
+use Prim.Native.Nat.{ℕ, zero, suc, _+_, _-_, _<_, _≤_, zero-le, suc-le-suc}
 use native.Mathlib.Nat.{not-suc-le-zero, le-of-suc-le-suc, zero-lt-suc, add-zero, add-suc, suc-add}
 use native.Mathlib.Numerals.{add-one}
 use native.Mathlib.Omega.{arith}
 use borrow.Author.Count.{below-more}
+use borrow.Author.Tests.{eqb-true, eq-eqb}
+use lib.Dec.{eqb}
 use lib.ListN.{length, getD, set, drop}
 use lib.Seq.{getD-set-same, getD-set-other, drop-cons, sets}
 
@@ -75,3 +81,37 @@ pub place-of : (A : Type 0) (d x : A) (l : List A) → List·Memᴰ x l → (i :
 place-of A d x [] m = absurd (List·Memᴰ·not-nil m)
 place-of A d x (y ∷ l) (List·Memᴰ·head e) = (0, zero-lt-suc (length l), sym e)
 place-of A d x (y ∷ l) (List·Memᴰ·tail m) = let p = place-of A d x l m in (suc (p .0), suc-le-suc (p .1), p .2)
+-- ---- where a number stands in a list: its first place there, and the list's length where it is not there
+abbrev pub standsAt : ℕ → List ℕ → ℕ
+standsAt x [] = 0
+standsAt x (y ∷ ys) = elim (eqb y x) [ true ↦ 0 | false ↦ suc (standsAt x ys) ]
+
+-- it stands there, unless that is past the list
+pub stands-there : (x : ℕ) (ys : List ℕ) → standsAt x ys < length ys → getD ys (standsAt x ys) 0 ≡ x
+stands-there x [] h = absurd (not-suc-le-zero h)
+stands-there x (y ∷ ys) h = go (eqb y x) refl (stands-there x ys) h
+  where
+    go : (b : Bool) → eqb y x ≡ b → (standsAt x ys < length ys → getD ys (standsAt x ys) 0 ≡ x)
+        → elim b [ true ↦ 0 | false ↦ suc (standsAt x ys) ] < suc (length ys)
+        → getD (y ∷ ys) (elim b [ true ↦ 0 | false ↦ suc (standsAt x ys) ]) 0 ≡ x
+    go true e r h = eqb-true y x e
+    go false e r h = r (le-of-suc-le-suc h)
+
+-- and nowhere before
+pub stands-first : (x : ℕ) (ys : List ℕ) (k : ℕ) → k < length ys → getD ys k 0 ≡ x → standsAt x ys ≤ k
+stands-first x [] k h e = absurd (not-suc-le-zero h)
+stands-first x (y ∷ ys) zero h e =
+    subst (λ (b : Bool). elim b [ true ↦ 0 | false ↦ suc (standsAt x ys) ] ≤ 0) (sym (eq-eqb y x e)) zero-le
+stands-first x (y ∷ ys) (suc k) h e = go (eqb y x) (stands-first x ys k (le-of-suc-le-suc h) e)
+  where
+    go : (b : Bool) → standsAt x ys ≤ k → elim b [ true ↦ 0 | false ↦ suc (standsAt x ys) ] ≤ suc k
+    go true l = zero-le
+    go false l = suc-le-suc l
+
+pub stands-le : (x : ℕ) (ys : List ℕ) → standsAt x ys ≤ length ys
+stands-le x [] = zero-le
+stands-le x (y ∷ ys) = go (eqb y x) (stands-le x ys)
+  where
+    go : (b : Bool) → standsAt x ys ≤ length ys → elim b [ true ↦ 0 | false ↦ suc (standsAt x ys) ] ≤ suc (length ys)
+    go true l = zero-le
+    go false l = suc-le-suc l

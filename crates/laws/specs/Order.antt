@@ -4,6 +4,7 @@ use mathlib.Core.Logic.{_⊎_, inl, inr}
 use mathlib.Core.Bool.{Bool, true, false}
 use mathlib.Core.List.{List, [], _∷_}
 use Prim.Native.Nat.{ℕ, zero, suc, _+_, _<_, _≤_, compare, Ordering, Ordering·lt, Ordering·eq, Ordering·gt}
+use native.Mathlib.Decide.{decLt}
 use native.Mathlib.Omega.{arith}
 use lib.Dec.{T, isLe, isEq, leb→le, le→leb, eqb→eq, eqb-refl}
 use Rattle.laws.specs.Tests.{Says, says-by, true-is}
@@ -118,3 +119,16 @@ unfolding Says LexLe
 lexLe-says [] w = tt
 lexLe-says (x ∷ v) [] = λ z. z
 lexLe-says (x ∷ v) (y ∷ w) = pick3-says x y (lexLe v w) (LexLe v w) (lexLe-says v w)
+-- ---- a number is below another, or is it, or is above it
+pub data Compared (a b : ℕ) : Type 0 where
+  less : a < b → Compared a b
+  same : a ≡ b → Compared a b
+  more : b < a → Compared a b
+
+pub trichotomy : (a b : ℕ) → Compared a b
+trichotomy a b = go (decLt a b) (decLt b a)
+  where
+    go : Dec (a < b) → Dec (b < a) → Compared a b
+    go (yes p) q = less p
+    go (no p) (yes q) = more q
+    go (no p) (no q) = same (omega arith)

@@ -1,0 +1,32 @@
+-- `rows::middle_seat` meets its contract. Assumes nothing.
+use mathlib.Core.Path.{sym, subst}
+use Prim.Native.Nat.{ℕ, _<_, _≤_}
+use borrow.Author.Needs.{needs}
+use Rattle.rows.specs.Answers.{middle-used, middle-unused}
+use Rattle.rows.proofs.middle_seat.Statement.{statement}
+use Rattle.rows.proofs.middle_seat.Tie as tie
+
+middle-rows-requires : tie.Need-middle-rows-requires
+middle-rows-requires c κs = search needs
+
+cast-t5 : tie.Need-cast-t5
+cast-t5 c = search needs
+
+mul-t6 : tie.Need-mul-t6
+mul-t6 c = search needs
+
+add-t7 : tie.Need-add-t7
+add-t7 c = search needs
+
+returns : tie.Need-returns
+returns c =
+    let a = c .before .before .args in
+    sym (middle-used (a .class) (a .index) (subst (λ (n : ℕ). a .index < n) (c .before .middle-rows .ensures) (c .if1 .taken)))
+
+returns-2 : tie.Need-returns-2
+returns-2 c =
+    let a = c .before .before .args in
+    sym (middle-unused (a .class) (a .index) (subst (λ (n : ℕ). n ≤ a .index) (c .before .middle-rows .ensures) (c .if1 .left)))
+
+pub middle-seat-spec : {M : Type 1} → statement M
+middle-seat-spec = tie.close (tie.spec middle-rows-requires cast-t5 mul-t6 add-t7 returns returns-2)

@@ -1,0 +1,103 @@
+-- `rows::place_of` meets its contract: of the 2 ^ d rows from lo on, one is w if any row is. Assumes nothing.
+use mathlib.Core.Path.{_≡_, sym, ap, subst, _∙_}
+use Prim.Native.Nat.{ℕ, _*_, _-_, _≤_}
+use native.Mathlib.Omega.{arith}
+use borrow.Author.Needs.{needs}
+use Rattle.rank.specs.Vector.{unpack}
+use Rattle.rows.specs.Key.{key}
+use Rattle.rows.proofs.Search.{Around, all-of-class, last, turn-up, turn-down}
+use Rattle.rows.proofs.place_of.Statement.{statement}
+use Rattle.rows.proofs.place_of.Tie as tie
+
+abbrev Inv-loop : tie.InvT-loop
+Inv-loop w k lo₀ d₀ lo d = (d ≤ 11) × (lo ≤ 4096) × Around w lo d
+
+abbrev μ-loop : tie.MeasureT-loop
+μ-loop w k lo₀ d₀ lo d = d
+
+key-of-requires : tie.Need-key-of-requires Inv-loop μ-loop
+key-of-requires c κs = search needs
+
+class-of-requires : tie.Need-class-of-requires Inv-loop μ-loop
+class-of-requires c κs = search needs
+
+cast-lo : tie.Need-cast-lo Inv-loop μ-loop
+cast-lo c = search needs
+
+mul-lo : tie.Need-mul-lo Inv-loop μ-loop
+mul-lo c = omega (arith, c .class-of .ensures .1)
+
+loop-holds : tie.Need-loop-holds Inv-loop μ-loop
+loop-holds c =
+    let w = c .before .before .args .w in
+    (omega arith, omega (arith, c .class-of .ensures .1),
+    subst (λ (n : ℕ). Around w (2048 * n) 11) (sym (c .class-of .ensures .0)) (all-of-class w))
+
+sub-d : tie.Need-sub-d Inv-loop μ-loop
+sub-d c = search needs
+
+bit-requires : tie.Need-bit-requires Inv-loop μ-loop
+bit-requires c κs = search needs
+
+add-m : tie.Need-add-m Inv-loop μ-loop
+add-m c = omega (arith, c .bit .ensures .1, c .before .before .loop .inv .1)
+
+row-requires : tie.Need-row-requires Inv-loop μ-loop
+row-requires c κs = search needs
+
+key-of-requires-2 : tie.Need-key-of-requires-2 Inv-loop μ-loop
+key-of-requires-2 c κs = search needs
+
+loop-less : tie.Need-loop-less Inv-loop μ-loop
+loop-less c = search needs
+
+loop-again : tie.Need-loop-again Inv-loop μ-loop
+loop-again c =
+    let l = c .before .before .before .before .before .loop in
+    let s = c .before .before .before .before .before .before .before in
+    let t =
+        turn-up (s .before .args .w) (l .lo) (l .d) (c .before .before .before .bit .result) (s .key-of .result) (c .before .key-of2 .result) (l .inv .2)
+        (omega arith) (c .before .before .before .bit .ensures .0) (s .key-of .ensures)
+        (c .before .key-of2 .ensures ∙ ap (λ (x : ℕ). key (unpack 8 x)) (c .before .before .row .ensures)) (c .if1 .taken) in
+    (omega arith, omega (arith, t .0), t .1)
+
+loop-less-2 : tie.Need-loop-less-2 Inv-loop μ-loop
+loop-less-2 c = search needs
+
+loop-again-2 : tie.Need-loop-again-2 Inv-loop μ-loop
+loop-again-2 c =
+    let l = c .before .before .before .before .before .loop in
+    let s = c .before .before .before .before .before .before .before in
+    (omega arith, l .inv .1,
+    turn-down (s .before .args .w) (l .lo) (l .d) (c .before .before .before .bit .result) (s .key-of .result) (c .before .key-of2 .result) (l .inv .2)
+    (omega arith) (c .before .before .before .bit .ensures .0) (s .key-of .ensures)
+    (c .before .key-of2 .ensures ∙ ap (λ (x : ℕ). key (unpack 8 x)) (c .before .before .row .ensures)) (c .if1 .left))
+
+returns : tie.Need-returns Inv-loop μ-loop
+returns c =
+    let l = c .before .loop in
+    let w = c .before .before .before .before .args .w in
+    let e : l .d ≡ 0 = omega arith in
+    last w (l .lo) (subst (λ (n : ℕ). Around w (l .lo) n) e (l .inv .2))
+
+pub place-of-spec : {M : Type 1} → statement M
+place-of-spec =
+    tie.close
+    (tie.spec
+    Inv-loop
+    μ-loop
+    key-of-requires
+    class-of-requires
+    cast-lo
+    mul-lo
+    loop-holds
+    sub-d
+    bit-requires
+    add-m
+    row-requires
+    key-of-requires-2
+    loop-less
+    loop-again
+    loop-less-2
+    loop-again-2
+    returns)

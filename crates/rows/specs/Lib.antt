@@ -1,0 +1,10 @@
+pub mod Rows
+pub mod Table
+pub mod Vectors
+pub mod Key
+pub mod Rule
+pub mod Order
+pub mod Complete
+pub mod Places
+pub mod Middle
+pub mod Answers
