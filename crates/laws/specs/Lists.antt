@@ -1,5 +1,7 @@
 -- Lists: one that a loop fills place by place, one that a loop takes apart, one after another. Assumes nothing.
 use mathlib.Core.Path.{_≡_, refl, ap, ap₂, sym, _∙_}
+use mathlib.Core.Bool.{Bool, true, false, cond}
+use mathlib.Core.List.{List, [], _∷_, _++_}
 use mathlib.Core.List.{List, [], _∷_, _++_, List·Memᴰ, List·Memᴰ·head, List·Memᴰ·tail, List·Memᴰ·not-nil}
 use Prim.Native.Nat.{ℕ, zero, suc, _+_, _-_, _<_, _≤_, suc-le-suc}
 use mathlib.Core.Path.{_≡_, refl, ap, ap₂, sym, subst, _∙_}
@@ -7,11 +9,15 @@ use mathlib.Core.Bool.{Bool, true, false}
 use mathlib.Core.List.{List, [], _∷_, _++_}
 use Prim.Native.Nat.{ℕ, zero, suc, _+_, _-_, _<_, _≤_, zero-le, suc-le-suc}
 use native.Mathlib.Nat.{not-suc-le-zero, le-of-suc-le-suc, zero-lt-suc, add-zero, add-suc, suc-add}
+use native.Mathlib.Nat.{not-suc-le-zero, le-of-suc-le-suc, zero-lt-suc, add-zero, add-suc, suc-add, le-of-eq}
 use native.Mathlib.Numerals.{add-one}
+use native.Mathlib.Decide.{ℕ-discrete}
 use native.Mathlib.Omega.{arith}
 use borrow.Author.Count.{below-more}
 use borrow.Author.Tests.{eqb-true, eq-eqb}
 use lib.Dec.{eqb}
+use borrow.Author.Tests.{eq-eqb, eqb-true, lt-ltb, le-ltb, ltb-true, ltb-false}
+use lib.Dec.{eqb, ltb}
 use lib.ListN.{length, getD, set, drop}
 use lib.Seq.{getD-set-same, getD-set-other, drop-cons, sets}
 
@@ -76,6 +82,97 @@ pub sets-append : (A : Type 0) (a b l : List A) (i : ℕ) → sets l i (a ++ b) 
 sets-append A [] b l i = rw add-zero
 sets-append A (x ∷ a) b l i = rw (add-suc, ← suc-add) (sets-append A a b (set l i x) (suc i))
 
+-- ---- looked for in a list of numbers
+-- the first place at which c stands; the length where it stands nowhere
+abbrev pub seek : ℕ → List ℕ → ℕ
+seek c [] = 0
+seek c (x ∷ xs) = elim (eqb x c) [ true ↦ 0 | false ↦ suc (seek c xs) ]
+
+-- what holds of the first place where the list begins with c, and where it does not, holds of the place found
+seek-by : (P : ℕ → Type 0) (c x : ℕ) (xs : List ℕ) → (x ≡ c → P 0) → P (suc (seek c xs)) → P (seek c (x ∷ xs))
+seek-by P c x xs here on = go (eqb x c) refl
+  where
+    go : (b : Bool) → eqb x c ≡ b → P (elim b [ true ↦ 0 | false ↦ suc (seek c xs) ])
+    go true e = here (eqb-true x c e)
+    go false e = on
+
+pub seek-le : (c : ℕ) (xs : List ℕ) → seek c xs ≤ length xs
+seek-le c [] = omega arith
+seek-le c (x ∷ xs) =
+    seek-by (λ (i : ℕ). i ≤ suc (length xs)) c x xs (λ e. omega arith) (suc-le-suc (seek-le c xs))
+
+-- a place found holds the number
+pub seek-holds : (c : ℕ) (xs : List ℕ) → seek c xs < length xs → getD xs (seek c xs) 0 ≡ c
+seek-holds c [] = λ h. absurd (not-suc-le-zero h)
+seek-holds c (x ∷ xs) =
+    seek-by (λ (i : ℕ). i < suc (length xs) → getD (x ∷ xs) i 0 ≡ c) c x xs (λ e h. e)
+    (λ h. seek-holds c xs (le-of-suc-le-suc h))
+
+-- no place past one that holds the number is found
+pub seek-first : (c : ℕ) (xs : List ℕ) (i : ℕ) → i < length xs → getD xs i 0 ≡ c → seek c xs ≤ i
+seek-first c [] i h e = absurd (not-suc-le-zero h)
+seek-first c (x ∷ xs) zero h e = le-of-eq (ap (λ (b : Bool). elim b [ true ↦ 0 | false ↦ suc (seek c xs) ]) (eq-eqb x c e))
+seek-first c (x ∷ xs) (suc i) h e =
+    seek-by (λ (k : ℕ). k ≤ suc i) c x xs (λ q. omega arith) (suc-le-suc (seek-first c xs i (le-of-suc-le-suc h) e))
+
+pub seek-none : (c : ℕ) (xs : List ℕ) → ((i : ℕ) → i < length xs → getD xs i 0 ≡ c → ⊥) → seek c xs ≡ length xs
+seek-none c xs n = go (ℕ-discrete (seek c xs) (length xs))
+  where
+    go : Dec (seek c xs ≡ length xs) → seek c xs ≡ length xs
+    go (yes e) = e
+    go (no m) =
+        let h : seek c xs < length xs = omega (arith, seek-le c xs) in
+        absurd (n (seek c xs) h (seek-holds c xs h))
+
+-- no number stands twice
+abbrev pub Distinct : List ℕ → Type 0
+Distinct xs = (i j : ℕ) → i < length xs → j < length xs → getD xs i 0 ≡ getD xs j 0 → i ≡ j
+
+pub seek-is : (c : ℕ) (xs : List ℕ) → Distinct xs → (i : ℕ) → i < length xs → getD xs i 0 ≡ c → seek c xs ≡ i
+seek-is c xs d i h e =
+    let l : seek c xs < length xs = omega (arith, seek-first c xs i h e) in
+    d (seek c xs) i l h (seek-holds c xs l ∙ sym e)
+
+-- what f says of the place at which c stands; `none` where it stands nowhere
+abbrev pub lookUp : {A : Type 0} → (ℕ → A) → A → List ℕ → ℕ → A
+lookUp f none xs c = cond (ltb (seek c xs) (length xs)) (f (seek c xs)) none
+
+module _ (A : Type 0) (f : ℕ → A) (none : A) (xs : List ℕ) (c : ℕ) where
+  pub look-at : Distinct xs → (i : ℕ) → i < length xs → getD xs i 0 ≡ c → lookUp f none xs c ≡ f i
+  look-at d i h e =
+      let q = seek-is c xs d i h e in
+      ap (λ (b : Bool). cond b (f (seek c xs)) none) (lt-ltb (seek c xs) (length xs) (omega arith)) ∙ ap f q
+
+  pub look-none : ((i : ℕ) → i < length xs → getD xs i 0 ≡ c → ⊥) → lookUp f none xs c ≡ none
+  look-none n =
+      ap (λ (b : Bool). cond b (f (seek c xs)) none) (le-ltb (seek c xs) (length xs) (omega (arith, seek-none c xs n)))
+
+  -- what every place that answers v gives, v gives, where v is not `none`
+  pub look-out : (v : A) (Q : Type 0) → (none ≡ v → ⊥) → ((i : ℕ) → i < length xs → getD xs i 0 ≡ c → f i ≡ v → Q)
+      → lookUp f none xs c ≡ v → Q
+  look-out v Q n q = go (ltb (seek c xs) (length xs)) refl
+    where
+      go : (b : Bool) → ltb (seek c xs) (length xs) ≡ b → cond b (f (seek c xs)) none ≡ v → Q
+      go true e u = q (seek c xs) (ltb-true (seek c xs) (length xs) e) (seek-holds c xs (ltb-true (seek c xs) (length xs) e)) u
+      go false e u = absurd (n u)
+
+  -- `none` says that c stands nowhere
+  pub look-missing : ((i : ℕ) → f i ≡ none → ⊥) → lookUp f none xs c ≡ none → (i : ℕ) → i < length xs → getD xs i 0 ≡ c → ⊥
+  look-missing n = go (ltb (seek c xs) (length xs)) refl
+    where
+      go : (b : Bool) → ltb (seek c xs) (length xs) ≡ b → cond b (f (seek c xs)) none ≡ none
+          → (i : ℕ) → i < length xs → getD xs i 0 ≡ c → ⊥
+      go true e u i h q = n (seek c xs) u
+      go false e u i h q = omega (arith, seek-first c xs i h q, ltb-false (seek c xs) (length xs) e)
+
+-- what g makes of the answer
+pub look-map : (A B : Type 0) (g : A → B) (f : ℕ → A) (none : A) (xs : List ℕ) (c : ℕ)
+    → g (lookUp f none xs c) ≡ lookUp (λ (i : ℕ). g (f i)) (g none) xs c
+look-map A B g f none xs c = go (ltb (seek c xs) (length xs))
+  where
+    go : (b : Bool) → g (cond b (f (seek c xs)) none) ≡ cond b (g (f (seek c xs))) (g none)
+    go true = refl
+    go false = refl
 -- ---- a member of a list stands at some place of it
 pub place-of : (A : Type 0) (d x : A) (l : List A) → List·Memᴰ x l → (i : ℕ) × (i < length l) × (getD l i d ≡ x)
 place-of A d x [] m = absurd (List·Memᴰ·not-nil m)

@@ -22,7 +22,13 @@ pub and-in : (a b : Bool) → T a → T b → T (a && b)
 and-in true b s t = t
 and-in false b s t = s
 
--- four tests joined, taken apart
+-- three tests joined, taken apart, and four
+pub split3 : (a b c : Bool) → T (a && (b && c)) → T a × T b × T c
+split3 true true true t = (tt, tt, tt)
+split3 true true false t = absurd t
+split3 true false c t = absurd t
+split3 false b c t = absurd t
+
 pub split4 : (a b c d : Bool) → T (a && (b && (c && d))) → T a × T b × T c × T d
 split4 true true true true t = (tt, tt, tt, tt)
 split4 true true true false t = absurd t
@@ -33,6 +39,18 @@ split4 false b c d t = absurd t
 pub or-else : (a b : Bool) → T (a || b) → (T a → ⊥) → T b
 or-else true b t n = absurd (n tt)
 or-else false b t n = t
+
+pub or-left : (a b : Bool) → T a → T (a || b)
+or-left true b t = tt
+or-left false b t = absurd t
+
+pub or-right : (a b : Bool) → T b → T (a || b)
+or-right true b t = tt
+or-right false b t = t
+
+pub or-cases : (a b : Bool) → T (a || b) → T a ⊎ T b
+or-cases true b t = inl tt
+or-cases false b t = inr t
 
 -- c, where b holds
 abbrev pub implies : Bool → Bool → Bool

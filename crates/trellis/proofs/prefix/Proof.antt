@@ -1,0 +1,41 @@
+use borrow.Author.Needs.{needs}
+use native.Mathlib.Omega.{arith}
+use mathlib.Core.Path.{sym}
+use Rattle.trellis.specs.Tables.{prefixes}
+use Rattle.trellis.specs.Trellis.{prefixOf}
+use Rattle.trellis.specs.Path.{row-at, row-beyond, row-past, prefixes-length}
+use Rattle.trellis.proofs.prefix.Statement.{statement}
+use Rattle.trellis.proofs.prefix.Tie as tie
+use Rattle.trellis.proofs.prefix.Reads as reads
+use Rattle.trellis.proofs.prefix.Lts as lts
+
+-- src/lib.rt:105:9
+returns : tie.Need-returns
+unfolding prefixOf
+returns c = sym (row-beyond 2 prefixes (c .before .args .s8) (c .before .args .b1) (omega (arith, prefixes-length)))
+
+-- src/lib.rt:108:9
+returns-2 : tie.Need-returns-2
+unfolding prefixOf
+returns-2 c = sym (row-past 2 prefixes (c .before .before .args .s8) (c .before .before .args .b1) (omega arith))
+
+-- src/lib.rt:110:14
+mul-result : tie.Need-mul-result
+mul-result c = search needs
+
+-- src/lib.rt:110:14
+add-result : tie.Need-add-result
+add-result c = search needs
+
+-- src/lib.rt:110:5
+array-read-result : tie.Need-array-read-result
+array-read-result c = search needs
+
+-- src/lib.rt:101:1
+returns-3 : tie.Need-returns-3
+unfolding prefixOf prefixes
+returns-3 c = sym (row-at 2 prefixes (c .before .before .args .s8) (c .before .before .args .b1) (omega arith))
+
+pub prefix-spec : {M : Type 1} → statement M
+prefix-spec =
+    tie.close (tie.spec returns returns-2 mul-result add-result array-read-result returns-3)

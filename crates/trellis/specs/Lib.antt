@@ -1,0 +1,13 @@
+pub mod Code
+pub mod Trio
+pub mod Tables
+pub mod Trellis
+pub mod Cuts
+pub mod Linear
+pub mod Words
+pub mod CodeLaws
+pub mod Path
+pub mod States
+pub mod Back
+pub mod TrioLaws
+pub mod Numbering

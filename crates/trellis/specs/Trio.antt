@@ -1,0 +1,29 @@
+-- Trio order: the set bits of each octad ascending, in the order of the octads. Assumes nothing.
+use mathlib.Core.Bool.{Bool, true, false}
+use mathlib.Core.List.{List, [], _∷_, _++_}
+use Prim.Native.Nat.{ℕ, zero, suc, _/_, _%_}
+use lib.Dec.{eqb}
+use Rattle.laws.specs.Lists.{tab, seek}
+
+-- three octads: bit i of each stands for coordinate i
+abbrev pub octad1 : ℕ
+octad1 = 0x00149f
+
+abbrev pub octad2 : ℕ
+octad2 = 0x0f6840
+
+abbrev pub octad3 : ℕ
+octad3 = 0xf08320
+
+-- the set bits of w, ascending, n of them looked at, the first of which is bit i
+abbrev pub setBits : ℕ → ℕ → ℕ → List ℕ
+setBits zero i w = []
+setBits (suc n) i w = elim (eqb (w % 2) 1) [ true ↦ i ∷ setBits n (suc i) (w / 2) | false ↦ setBits n (suc i) (w / 2) ]
+
+-- the coordinate at each place of trio order
+unfoldable pub order : List ℕ
+order = setBits 24 0 octad1 ++ (setBits 24 0 octad2 ++ setBits 24 0 octad3)
+
+-- the place of each coordinate: where it stands in the order
+unfoldable pub places : List ℕ
+places = tab (λ (i : ℕ). seek i order) 24
