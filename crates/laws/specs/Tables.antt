@@ -79,6 +79,7 @@ up-distinct xs up i j h k e = omega (arith, before, after)
 
     after : j < i → ⊥
     after l = omega (arith, up j i l h)
+
 -- ---- along the list each entry stands before the next; where that is transitive, each stands before all that follow
 module _ (b : ℕ → ℕ → Bool) where
   abbrev pub chainFrom : ℕ → List ℕ → Bool

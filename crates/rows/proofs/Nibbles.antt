@@ -20,6 +20,7 @@ from-next w i h =
   where
     left : (i : ℕ) → i < 8 → 8 - i ≡ suc (8 - (i + 1))
     left i h = omega arith
+
     four : (i : ℕ) → 4 * i + 4 ≡ 4 * (i + 1)
     four i = omega arith
 

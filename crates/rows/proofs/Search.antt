@@ -24,8 +24,10 @@ pub record Around (w lo d : ℕ) : Type 0 where
 pub all-of-class : (w : ℕ) → Around w (2048 * class (unpack 8 w)) 11
 unfolding rowRanks
 all-of-class w = record {
-    start = omega arith; stop = omega arith;
-    only = λ i h e. block i (class (unpack 8 w)) (sym (row-class i h) ∙ ap (λ (x : ℕ). class (unpack 8 x)) e) }
+  start = omega arith;
+  stop = omega arith;
+  only = λ i h e. block i (class (unpack 8 w)) (sym (row-class i h) ∙ ap (λ (x : ℕ). class (unpack 8 x)) e);
+}
   where
     block : (i c : ℕ) → i / 2048 ≡ c → (2048 * c ≤ i) × (i < 2048 * c + 2 ^ 11)
     block i c e = (omega arith, omega arith)
@@ -44,7 +46,8 @@ module _ (w lo d : ℕ) (a : Around w lo (suc d)) where
   one-class : (i : ℕ) → lo ≤ i → i < lo + 2 ^ suc d → i / 2048 ≡ (lo + 2 ^ d) / 2048
   one-class i l h = block (class (unpack 8 w)) lo i (lo + 2 ^ d) (lo + 2 ^ suc d) (a .start) l (omega arith) h room (a .stop)
     where
-      block : (c lo i m hi : ℕ) → 2048 * c ≤ lo → lo ≤ i → lo ≤ m → i < hi → m < 2048 * c + 2048 → hi ≤ 2048 * c + 2048 → i / 2048 ≡ m / 2048
+      block : (c lo i m hi : ℕ) → 2048 * c ≤ lo → lo ≤ i → lo ≤ m → i < hi → m < 2048 * c + 2048 → hi ≤ 2048 * c + 2048
+          → i / 2048 ≡ m / 2048
       block c lo i m hi p q r s t u = omega arith
 
   -- row i is w
@@ -68,15 +71,17 @@ module _ (w lo d : ℕ) (a : Around w lo (suc d)) where
 
   pub upper : key (rowRanks (lo + 2 ^ d)) ≤ key (unpack 8 w) → Around w (lo + 2 ^ d) d
   upper k = record {
-      start = omega (arith, a .start);
-      stop = omega (arith, a .stop, pow-suc 2 d);
-      only = λ i h e. (not-below i h e k (trichotomy i (lo + 2 ^ d)), omega (arith, a .only i h e .1, pow-suc 2 d)) }
+    start = omega (arith, a .start);
+    stop = omega (arith, a .stop, pow-suc 2 d);
+    only = λ i h e. (not-below i h e k (trichotomy i (lo + 2 ^ d)), omega (arith, a .only i h e .1, pow-suc 2 d));
+  }
 
   pub lower : key (unpack 8 w) < key (rowRanks (lo + 2 ^ d)) → Around w lo d
   lower k = record {
-      start = a .start;
-      stop = omega (arith, room);
-      only = λ i h e. (a .only i h e .0, not-above i h e k (trichotomy i (lo + 2 ^ d))) }
+    start = a .start;
+    stop = omega (arith, room);
+    only = λ i h e. (a .only i h e .0, not-above i h e k (trichotomy i (lo + 2 ^ d)));
+  }
 
 -- one row is left
 pub last : (w lo : ℕ) → Around w lo 0 → (lo < 4096) × ((i : ℕ) → i < 4096 → getD rows i 0 ≡ w → i ≡ lo)

@@ -10,7 +10,7 @@ use Rattle.laws.specs.Tests.{upto, below, implies, modus, and-left, and-right}
 use Rattle.laws.specs.Trees.{Tree, build, get, get-build}
 use Rattle.rank.specs.Vector.{sq, cost, class, pack, unpack, inClass}
 use Rattle.rows.specs.Rows.{rows}
-use Rattle.rows.specs.Table.{rowRanks}
+use Rattle.rows.specs.Table.{rowRanks, IsRow}
 use Rattle.rows.specs.Vectors.{unpack-pack, below-up, length≤cost, rank-small, class-cost, class-ranks}
 use Rattle.rows.specs.Rule.{tableKey}
 
@@ -28,7 +28,8 @@ cheap-at K hK (suc d) s f t (r ∷ v) e h =
     cheap-at K hK d (s + sq r) (λ (w : List ℕ). f (r ∷ w))
     (modus (ltb (s + sq r + d) K) (cheap K d (s + sq r) (λ (w : List ℕ). f (r ∷ w)))
     (lt→ltb (s + sq r + d) K (omega (arith, length≤cost v)))
-    (below 6 (λ (x : ℕ). implies (ltb (s + sq x + d) K) (cheap K d (s + sq x) (λ (w : List ℕ). f (x ∷ w)))) t r (rank-small 6 r (omega arith))))
+    (below 6 (λ (x : ℕ). implies (ltb (s + sq x + d) K) (cheap K d (s + sq x) (λ (w : List ℕ). f (x ∷ w)))) t r
+    (rank-small 6 r (omega arith))))
     v (omega arith) (omega arith)
 
 -- ---- a guess at the place of a vector, by the keys of the rows at the forks of a search tree
@@ -78,8 +79,9 @@ is-found v h t = go (guess v) (modus (inClass (class v) v) (ltb (guess v) 4096 &
         let l = ltb→lt i 4096 (and-left (ltb i 4096) (eqb (get 12 rowTree i) (pack v)) t) in
         (l, sym (row-is i l) ∙ eqb→eq (get 12 rowTree i) (pack v) (and-right (ltb i 4096) (eqb (get 12 rowTree i) (pack v)) t))
 
-pub complete : (v : List ℕ) → length v ≡ 8 → T (inClass (class v) v) → (i : ℕ) × (i < 4096) × (rowRanks i ≡ v)
+pub complete : (v : List ℕ) → length v ≡ 8 → T (inClass (class v) v) → IsRow v
 unfolding rowRanks
 complete v e h =
     let f = is-found v h (cheap-at 97 (omega arith) 8 0 found all-found v e (omega (arith, class-cost (class v) v h))) in
-    (guess v, f .0, ap (unpack 8) (f .1) ∙ ap (λ (n : ℕ). unpack n (pack v)) (sym e) ∙ unpack-pack v (below-up 5 16 (omega arith) v (class-ranks (class v) v h)))
+    let small = below-up 5 16 (omega arith) v (class-ranks (class v) v h) in
+    (guess v, f .0, ap (unpack 8) (f .1) ∙ ap (λ (n : ℕ). unpack n (pack v)) (sym e) ∙ unpack-pack v small)

@@ -58,6 +58,7 @@ key-order v w e sv sw = (λ t. there (pick3-out (cost v) (cost w) (lexLt v w) t)
     there : (cost v < cost w) ⊎ ((cost v ≡ cost w) × T (lexLt v w)) → key v < key w
     there (inl h) = higher v w e sv (cost v) (cost w) h
     there (inr h) = subst (λ (n : ℕ). key v < digitsAfter n w) (h .0) (lex-digits v w e sv (cost v) (h .1))
+
     back : Compared (cost v) (cost w) → key v < key w → T (before v w)
     back (less l) h = pick3-lt (cost v) (cost w) (lexLt v w) l
     back (same q) h =

@@ -2,7 +2,6 @@
 -- Assumes nothing.
 use mathlib.Core.Path.{_≡_, _∙_, refl, ap, sym, subst}
 use mathlib.Core.Bool.{Bool, true, false, cond}
-use mathlib.Core.Logic.{_⊎_, inl, inr}
 use mathlib.Core.List.{List}
 use Prim.Native.Nat.{ℕ, zero, suc, _+_, _*_, _-_, _/_, _%_, _<_, _≤_}
 use native.Mathlib.Decide.{decLt}
@@ -12,7 +11,7 @@ use lib.Dec.{T, ltb}
 use lib.ListN.{length}
 use Rattle.laws.specs.Tests.{is-true, true-is}
 use Rattle.rank.specs.Vector.{class, inMiddle}
-use Rattle.rows.specs.Table.{rowRanks, positionOf, middleRows, middleClass, middleRow}
+use Rattle.rows.specs.Table.{rowRanks, positionOf, middleRows, middleClass, middleRow, IsMiddleRow}
 use Rattle.rows.specs.Vectors.{middle-class}
 use Rattle.rows.specs.Rule.{row-middle}
 use Rattle.rows.specs.Places.{number-class, number-index, number-back, row-at-position, position-iff, position-middle}
@@ -28,16 +27,22 @@ pub record Names (i c j : ℕ) : Type 0 where
 in-zero : (i : ℕ) → i < 1240 → Names i 0 i
 unfolding middleRow middleClass
 in-zero i h = record {
-    two = omega arith; used = h; index = omega arith;
-    row = ap (λ (b : Bool). cond b i (2048 + (i - 1240))) (lt-ltb i 1240 h) ∙ omega arith;
-    class-is = ap (λ (b : Bool). cond b 0 1) (lt-ltb i 1240 h) }
+  two = omega arith;
+  used = h;
+  index = omega arith;
+  row = ap (λ (b : Bool). cond b i (2048 + (i - 1240))) (lt-ltb i 1240 h) ∙ omega arith;
+  class-is = ap (λ (b : Bool). cond b 0 1) (lt-ltb i 1240 h);
+}
 
 in-one : (i : ℕ) → 1240 ≤ i → i < 2048 → Names i 1 (i - 1240)
 unfolding middleRow middleClass
 in-one i l h = record {
-    two = omega arith; used = omega arith; index = omega arith;
-    row = ap (λ (b : Bool). cond b i (2048 + (i - 1240))) (le-ltb i 1240 l) ∙ omega arith;
-    class-is = ap (λ (b : Bool). cond b 0 1) (le-ltb i 1240 l) }
+  two = omega arith;
+  used = omega arith;
+  index = omega arith;
+  row = ap (λ (b : Bool). cond b i (2048 + (i - 1240))) (le-ltb i 1240 l) ∙ omega arith;
+  class-is = ap (λ (b : Bool). cond b 0 1) (le-ltb i 1240 l);
+}
 
 -- each index names a row, and each row that the middle uses has an index
 pub named : (i : ℕ) → i < 2048 → (c : ℕ) × (j : ℕ) × Names i c j
@@ -78,31 +83,34 @@ middle-row-class i h =
 
 -- the middle's rows meet the middle's bound
 pub middle-row-in : (i : ℕ) → i < 2048 → T (inMiddle (rowRanks (middleRow i)))
-middle-row-in i h = let n = named i h in go (n .0) (n .1) (n .2) (used-small (n .0) (n .1) (n .2 .used)) (middle-lt i h)
+middle-row-in i h = let n = named i h in go (n .0) (n .1) (n .2) (used-small (n .0) (n .1) (n .2 .used))
   where
-    go : (c j : ℕ) → Names i c j → j < 2048 → middleRow i < 4096 → T (inMiddle (rowRanks (middleRow i)))
-    go c j n s l =
+    go : (c j : ℕ) → Names i c j → j < 2048 → T (inMiddle (rowRanks (middleRow i)))
+    go c j n s =
         true-is (inMiddle (rowRanks (middleRow i)))
-        (row-middle (middleRow i) l ∙ ap (λ (p : ℕ). ltb (p % 2048) (middleRows (p / 2048))) (n .row) ∙ ap (λ (k : ℕ). ltb k (middleRows ((2048 * c + j) / 2048))) (number-index c j s)
-        ∙ ap (λ (k : ℕ). ltb j (middleRows k)) (number-class c j s) ∙ lt-ltb j (middleRows c) (n .used))
+        (row-middle (middleRow i) (middle-lt i h)
+        ∙ ap (λ (p : ℕ). ltb (p % 2048) (middleRows (p / 2048))) (n .row)
+        ∙ ap (λ (k : ℕ). ltb k (middleRows ((2048 * c + j) / 2048))) (number-index c j s)
+        ∙ ap (λ (k : ℕ). ltb j (middleRows k)) (number-class c j s)
+        ∙ lt-ltb j (middleRows c) (n .used))
 
--- and what meets the middle's bound is one of them
-pub middle-at : (v : List ℕ) → length v ≡ 8 → T (inMiddle v) → (i : ℕ) × (i < 2048) × (rowRanks (middleRow i) ≡ v)
+-- a row that the middle uses is one of the middle's rows
+pub used-row : (v : List ℕ) (p : ℕ) → p < 4096 → rowRanks p ≡ v → p % 2048 < middleRows (p / 2048) → IsMiddleRow v
+used-row v p h q u =
+    let n = has-index (p / 2048) (p % 2048) (omega arith) u in
+    (p % 2048 + 1240 * (p / 2048), index-small (p / 2048) (p % 2048) (omega arith) u, ap rowRanks (n .row ∙ number-back p) ∙ q)
+
+-- and so is what meets the middle's bound
+pub middle-at : (v : List ℕ) → length v ≡ 8 → T (inMiddle v) → IsMiddleRow v
 middle-at v e t =
     let h = position-iff v e .0 (middle-class (class v) v t) in
-    go (positionOf v) h (ltb-true (positionOf v % 2048) (middleRows (positionOf v / 2048)) (sym (position-middle v e h) ∙ is-true (inMiddle v) t)) (row-at-position v e h)
-  where
-    go : (p : ℕ) → p < 4096 → p % 2048 < middleRows (p / 2048) → rowRanks p ≡ v → (i : ℕ) × (i < 2048) × (rowRanks (middleRow i) ≡ v)
-    go p h u q =
-        let n = has-index (p / 2048) (p % 2048) (omega arith) u in
-        (p % 2048 + 1240 * (p / 2048), index-small (p / 2048) (p % 2048) (omega arith) u, ap rowRanks (n .row ∙ number-back p) ∙ q)
+    let q = sym (position-middle v e h) ∙ is-true (inMiddle v) t in
+    used-row v (positionOf v) h (row-at-position v e h) (ltb-true (positionOf v % 2048) (middleRows (positionOf v / 2048)) q)
 
 -- a vector is one of the middle's rows, or none
-pub middle-or-none : (v : List ℕ) → length v ≡ 8
-    → ((i : ℕ) × (i < 2048) × (rowRanks (middleRow i) ≡ v)) ⊎ ((i : ℕ) → i < 2048 → rowRanks (middleRow i) ≡ v → ⊥)
+pub middle-or-none : (v : List ℕ) → length v ≡ 8 → Dec (IsMiddleRow v)
 middle-or-none v e = go (inMiddle v) refl
   where
-    go : (b : Bool) → inMiddle v ≡ b
-        → ((i : ℕ) × (i < 2048) × (rowRanks (middleRow i) ≡ v)) ⊎ ((i : ℕ) → i < 2048 → rowRanks (middleRow i) ≡ v → ⊥)
-    go true t = inl (middle-at v e (true-is (inMiddle v) t))
-    go false f = inr (λ i h q. subst T (ap inMiddle q ∙ f) (middle-row-in i h))
+    go : (b : Bool) → inMiddle v ≡ b → Dec (IsMiddleRow v)
+    go true t = yes (middle-at v e (true-is (inMiddle v) t))
+    go false f = no (λ r. subst T (ap inMiddle (r .2) ∙ f) (middle-row-in (r .0) (r .1)))

@@ -1,7 +1,7 @@
 -- Where a vector stands in the table: a row at its own number, and no other vector anywhere. Assumes nothing.
 use mathlib.Core.Path.{_≡_, _∙_, refl, ap, sym, subst}
 use mathlib.Core.Bool.{Bool, true, false, cond}
-use mathlib.Core.Logic.{_↔_, _⊎_, inl, inr}
+use mathlib.Core.Logic.{_↔_}
 use mathlib.Core.List.{List}
 use Prim.Native.Nat.{ℕ, _+_, _*_, _-_, _/_, _%_, _^_, _<_, _≤_}
 use native.Mathlib.Decide.{decLt}
@@ -12,7 +12,7 @@ use Rattle.laws.specs.Tests.{is-true}
 use Rattle.laws.specs.Lists.{standsAt, stands-there, stands-first, stands-le}
 use Rattle.rank.specs.Vector.{ranksBelow, class, pack, unpack, before, inClass, inMiddle, boundCost, boundCut}
 use Rattle.rows.specs.Rows.{rows}
-use Rattle.rows.specs.Table.{rowRanks, maxRank, findOf, positionOf, middleRows}
+use Rattle.rows.specs.Table.{rowRanks, IsRow, maxRank, findOf, positionOf, middleRows}
 use Rattle.rows.specs.Vectors.{unpack-pack, pack-unpack, below-up, within-down}
 use Rattle.rows.specs.Rule.{count, row-class, row-within, row-middle, row-packed, row-ranks}
 use Rattle.rows.specs.Order.{unique}
@@ -72,9 +72,13 @@ unfolding positionOf
 ranks-decided v h = cond-lt (ranksBelow (maxRank + 1) v) (findOf (pack v)) h
 
 -- the row of a number stands at that number
-pub position-of-row : (i : ℕ) → i < 4096 → positionOf (rowRanks i) ≡ i
-position-of-row i h =
-    position-small (rowRanks i) (is-true (ranksBelow (maxRank + 1) (rowRanks i)) (row-ranks i h)) ∙ find-at (pack (rowRanks i)) i h (sym (row-packed i h))
+pub position-of-row : (p : ℕ) → p < 4096 → positionOf (rowRanks p) ≡ p
+position-of-row p h =
+    position-small (rowRanks p) (is-true (ranksBelow (maxRank + 1) (rowRanks p)) (row-ranks p h))
+    ∙ find-at (pack (rowRanks p)) p h (sym (row-packed p h))
+
+pub position-is : (v : List ℕ) (p : ℕ) → p < 4096 → rowRanks p ≡ v → positionOf v ≡ p
+position-is v p h q = ap positionOf (sym q) ∙ position-of-row p h
 
 -- the row at a vector's place is the vector
 pub row-at-position : (v : List ℕ) → length v ≡ 8 → positionOf v < 4096 → rowRanks (positionOf v) ≡ v
@@ -96,18 +100,18 @@ position-le v = go (ranksBelow (maxRank + 1) v)
     go false = omega arith
 
 -- a vector is the row at its place, or no row
-pub row-or-none : (v : List ℕ) → length v ≡ 8 → ((p : ℕ) × (p < 4096) × (rowRanks p ≡ v)) ⊎ ((p : ℕ) → p < 4096 → rowRanks p ≡ v → ⊥)
+pub row-or-none : (v : List ℕ) → length v ≡ 8 → Dec (IsRow v)
 row-or-none v e = go (decLt (positionOf v) 4096)
   where
-    go : Dec (positionOf v < 4096) → ((p : ℕ) × (p < 4096) × (rowRanks p ≡ v)) ⊎ ((p : ℕ) → p < 4096 → rowRanks p ≡ v → ⊥)
-    go (yes l) = inl (positionOf v, l, row-at-position v e l)
-    go (no l) = inr (λ p h q. l (subst (λ (n : ℕ). n < 4096) (sym (ap positionOf (sym q) ∙ position-of-row p h)) h))
+    go : Dec (positionOf v < 4096) → Dec (IsRow v)
+    go (yes l) = yes (positionOf v, l, row-at-position v e l)
+    go (no l) = no (λ r. l (subst (λ (p : ℕ). p < 4096) (sym (position-is v (r .0) (r .1) (r .2))) (r .1)))
 
-pub position-none : (v : List ℕ) → length v ≡ 8 → ((i : ℕ) → i < 4096 → rowRanks i ≡ v → ⊥) → positionOf v ≡ 4096
+pub position-none : (v : List ℕ) → length v ≡ 8 → (IsRow v → ⊥) → positionOf v ≡ 4096
 position-none v e n = go (decLt (positionOf v) 4096)
   where
     go : Dec (positionOf v < 4096) → positionOf v ≡ 4096
-    go (yes l) = absurd (n (positionOf v) l (row-at-position v e l))
+    go (yes l) = absurd (n (positionOf v, l, row-at-position v e l))
     go (no l) = omega (arith, position-le v)
 
 -- ---- a vector stands in the table exactly where it meets its class's bound, and then among the rows of its class
@@ -120,7 +124,8 @@ position-iff v e = (there, back)
     there : T (inClass (class v) v) → positionOf v < 4096
     there t =
         let r = complete v e t in
-        subst (λ (p : ℕ). p < 4096) (sym (ap positionOf (sym (r .2)) ∙ position-of-row (r .0) (r .1))) (r .1)
+        subst (λ (p : ℕ). p < 4096) (sym (position-is v (r .0) (r .1) (r .2))) (r .1)
+
     back : positionOf v < 4096 → T (inClass (class v) v)
     back h =
         subst (λ (c : ℕ). T (inClass c v)) (position-class v e h)
@@ -131,9 +136,11 @@ pub is-row : (c : ℕ) (v : List ℕ) → length v ≡ 8 → class v ≡ c → T
     → (i : ℕ) × (i < 2048) × (rowRanks (2048 * c + i) ≡ v)
 is-row c v e k t =
     let h = position-iff v e .0 (subst (λ (m : ℕ). T (inClass m v)) (sym k) t) in
-    let d : positionOf v / 2048 ≡ c = position-class v e h ∙ k in
-    (positionOf v % 2048, omega arith
-    , ap (λ (n : ℕ). rowRanks (2048 * n + positionOf v % 2048)) (sym d) ∙ ap rowRanks (number-back (positionOf v)) ∙ row-at-position v e h)
+    let d : positionOf v / 2048 ≡ c = position-class v e h ∙ k in (
+      positionOf v % 2048,
+      omega arith,
+      ap (λ (n : ℕ). rowRanks (2048 * n + positionOf v % 2048)) (sym d) ∙ ap rowRanks (number-back (positionOf v)) ∙ row-at-position v e h,
+    )
 
 -- and it meets the middle's bound exactly where it stands among the middle's rows
 pub position-middle : (v : List ℕ) → length v ≡ 8 → positionOf v < 4096
@@ -150,9 +157,12 @@ cheapest v e i h k b =
 -- ---- a packed row is found where its ranks stand
 pub find-position : (w : ℕ) → w < 2 ^ 32 → findOf w ≡ positionOf (unpack 8 w)
 unfolding rowRanks
-find-position w h = go (decLt (findOf w) 4096)
+find-position w h = go (row-or-none (unpack 8 w) refl)
   where
-    go : Dec (findOf w < 4096) → findOf w ≡ positionOf (unpack 8 w)
-    go (yes l) = sym (ap (λ (x : ℕ). positionOf (unpack 8 x)) (sym (find-row w l)) ∙ position-of-row (findOf w) l)
-    go (no l) =
-        omega (arith, find-le w) ∙ sym (position-none (unpack 8 w) refl (λ i k q. l (subst (λ (p : ℕ). p < 4096) (sym (find-at w i k (sym (row-packed i k) ∙ ap pack q ∙ pack-unpack 8 w h))) k)))
+    packed-is : (r : IsRow (unpack 8 w)) → getD rows (r .0) 0 ≡ w
+    packed-is r = sym (row-packed (r .0) (r .1)) ∙ ap pack (r .2) ∙ pack-unpack 8 w h
+
+    go : Dec (IsRow (unpack 8 w)) → findOf w ≡ positionOf (unpack 8 w)
+    go (yes r) = find-at w (r .0) (r .1) (packed-is r) ∙ sym (position-is (unpack 8 w) (r .0) (r .1) (r .2))
+    go (no n) =
+        find-none w (λ i k q. n (i, k, ap (unpack 8) q)) ∙ sym (position-none (unpack 8 w) refl n)

@@ -44,7 +44,9 @@ Rule c i v w = T (eqb (class v) c) × T (inClass c v) × T (Bool·beq (inMiddle 
 
 right-at : (i : ℕ) → i < 4096 → Rule (i / 2048) (i % 2048) (unpack 8 (getD rows i 0)) (getD rows i 0)
 unfolding right
-right-at i h = go (i / 2048) (i % 2048) (unpack 8 (getD rows i 0)) (getD rows i 0) (at right rows (and-left (every right 0 rows) (ascBy rowKey 0 rows) tested) i (omega (arith, count)))
+right-at i h =
+    go (i / 2048) (i % 2048) (unpack 8 (getD rows i 0)) (getD rows i 0)
+    (at right rows (and-left (every right 0 rows) (ascBy rowKey 0 rows) tested) i (omega (arith, count)))
   where
     go : (c i : ℕ) (v : List ℕ) (w : ℕ) → T (rule c i v w) → Rule c i v w
     go c i v w t = split4 (eqb (class v) c) (inClass c v) (Bool·beq (inMiddle v) (ltb i (middleRows c))) (eqb (pack v) w) t

@@ -1,7 +1,8 @@
 -- The table's rows as rank vectors, and what the lookups answer. Assumes nothing.
+use mathlib.Core.Path.{_≡_}
 use mathlib.Core.Bool.{cond}
 use mathlib.Core.List.{List, [], _∷_}
-use Prim.Native.Nat.{ℕ, zero, suc, _+_, _*_, _-_, _/_, _%_}
+use Prim.Native.Nat.{ℕ, zero, suc, _+_, _*_, _-_, _/_, _%_, _<_}
 use lib.Dec.{ltb}
 use lib.ListN.{getD}
 use Rattle.laws.specs.Lists.{standsAt}
@@ -13,6 +14,10 @@ use Rattle.rows.specs.declared.Seated.the-variants.{At, Nothing}
 -- the ranks of row i, coordinate 0 first
 unfoldable pub rowRanks : ℕ → List ℕ
 rowRanks i = unpack 8 (getD rows i 0)
+
+-- v is a row
+abbrev pub IsRow : List ℕ → Type 0
+IsRow v = (p : ℕ) × (p < 4096) × (rowRanks p ≡ v)
 
 -- the largest rank that a row holds
 abbrev pub maxRank : ℕ
@@ -40,6 +45,17 @@ abbrev pub middleRows : ℕ → ℕ
 middleRows zero = 1240
 middleRows (suc c) = 808
 
+-- the class and the row of the middle's index i
+unfoldable pub middleClass : ℕ → ℕ
+middleClass i = cond (ltb i 1240) 0 1
+
+unfoldable pub middleRow : ℕ → ℕ
+middleRow i = cond (ltb i 1240) i (2048 + (i - 1240))
+
+-- v is one of the middle's rows
+abbrev pub IsMiddleRow : List ℕ → Type 0
+IsMiddleRow v = (i : ℕ) × (i < 2048) × (rowRanks (middleRow i) ≡ v)
+
 -- from the index within the class to the middle's
 unfoldable pub middleSeat : Seated → Seated
 middleSeat (At c i) = cond (ltb i (middleRows c)) (At c (i + 1240 * c)) Nothing
@@ -47,13 +63,6 @@ middleSeat Nothing = Nothing
 
 unfoldable pub mixedIndexOf : List ℕ → Seated
 mixedIndexOf v = middleSeat (classIndexOf v)
-
--- and back: the class and the row of the middle's index i
-unfoldable pub middleClass : ℕ → ℕ
-middleClass i = cond (ltb i 1240) 0 1
-
-unfoldable pub middleRow : ℕ → ℕ
-middleRow i = cond (ltb i 1240) i (2048 + (i - 1240))
 
 -- ---- document 01's number and values of each answer. That a vector is no row is an answer and no refusal.
 abbrev pub numberOf : Seated → ℕ

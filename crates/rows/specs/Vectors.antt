@@ -39,10 +39,12 @@ below-at b (r ∷ v) t (suc j) h = below-at b v (rest-below b r v t) j (le-of-su
 pub unpack-pack : (v : List ℕ) → T (ranksBelow 16 v) → unpack (length v) (pack v) ≡ v
 unpack-pack [] s = refl
 unpack-pack (r ∷ v) s =
-    ap₂ {C = List ℕ} (λ a l. a ∷ l) (low (first-below 16 r v s)) (ap (unpack (length v)) (high (first-below 16 r v s)) ∙ unpack-pack v (rest-below 16 r v s))
+    let h = first-below 16 r v s in
+    ap₂ {C = List ℕ} (λ a l. a ∷ l) (low h) (ap (unpack (length v)) (high h) ∙ unpack-pack v (rest-below 16 r v s))
   where
     low : r < 16 → (r + 16 * pack v) % 16 ≡ r
     low h = omega arith
+
     high : r < 16 → (r + 16 * pack v) / 16 ≡ pack v
     high h = omega arith
 

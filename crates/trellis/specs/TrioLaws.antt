@@ -6,6 +6,7 @@ use lib.Dec.{T, eqb, ltb, eqb→eq, ltb→lt}
 use lib.ListN.{length, getD}
 use lib.Bits.{bitAnd, bitOr}
 use Rattle.laws.specs.Tests.{split4, upto, below}
+use Rattle.laws.specs.Lists.{tab, tab-length, seek}
 use Rattle.trellis.specs.Code.{wordOf, columns, weight}
 use Rattle.trellis.specs.Trio.{octad1, octad2, octad3, order, places}
 
@@ -15,7 +16,7 @@ order-length = refl
 
 pub places-length : length places ≡ 24
 unfolding places
-places-length = refl
+places-length = tab-length ℕ (λ (i : ℕ). seek i order) 24
 
 fits : ℕ → Bool
 fits k =
@@ -23,7 +24,7 @@ fits k =
     && (ltb (getD places k 0) 24 && (eqb (getD places (getD order k 0) 0) k && eqb (getD order (getD places k 0) 0) k))
 
 all-fit : T (upto 24 fits)
-unfolding fits order places
+unfolding fits order places tab
 all-fit = tt
 
 -- the coordinate at place k, the place of coordinate k, and that each undoes the other

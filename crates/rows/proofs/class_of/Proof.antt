@@ -37,11 +37,12 @@ loop-again c =
     let l = c .before .before .loop in
     let w = c .before .before .before .args .w in
     let i = l .j - 1 in
-    let e : l .j ≡ i + 1 = omega arith in
-    (omega arith,
-    sum-next kZero (λ (r : ℕ). (r + 1) / 2) (λ r v. refl) w i (l .sum) ((c .rank-at .result + 1) / 2) (omega arith)
-    (l .inv .1 ∙ ap (λ (n : ℕ). kZero (from w n)) e) (ap (λ (r : ℕ). (r + 1) / 2) (c .rank-at .ensures .0)),
-    omega (arith, c .rank-at .ensures .1))
+    let e : l .j ≡ i + 1 = omega arith in (
+      omega arith,
+      sum-next kZero (λ (r : ℕ). (r + 1) / 2) (λ r v. refl) w i (l .sum) ((c .rank-at .result + 1) / 2) (omega arith)
+          (l .inv .1 ∙ ap (λ (n : ℕ). kZero (from w n)) e) (ap (λ (r : ℕ). (r + 1) / 2) (c .rank-at .ensures .0)),
+      omega (arith, c .rank-at .ensures .1),
+    )
 
 returns : tie.Need-returns Inv-loop μ-loop
 returns c =

@@ -37,11 +37,12 @@ loop-again c =
     let l = c .before .before .before .loop in
     let w = c .before .before .before .before .args .w in
     let i = l .j - 1 in
-    let e : l .j ≡ i + 1 = omega arith in
-    (omega arith,
-    sum-next cost sq (λ r v. refl) w i (l .sum) (c .square .result) (omega arith)
-    (l .inv .1 ∙ ap (λ (n : ℕ). cost (from w n)) e) (c .square .ensures .0 ∙ ap sq (c .before .rank-at .ensures .0)),
-    omega (arith, c .square .ensures .1))
+    let e : l .j ≡ i + 1 = omega arith in (
+      omega arith,
+      sum-next cost sq (λ r v. refl) w i (l .sum) (c .square .result) (omega arith)
+          (l .inv .1 ∙ ap (λ (n : ℕ). cost (from w n)) e) (c .square .ensures .0 ∙ ap sq (c .before .rank-at .ensures .0)),
+      omega (arith, c .square .ensures .1),
+    )
 
 returns : tie.Need-returns Inv-loop μ-loop
 returns c =

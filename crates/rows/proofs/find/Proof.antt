@@ -1,5 +1,5 @@
 -- `rows::find` meets its contract. Assumes nothing.
-use mathlib.Core.Path.{sym, ap, _∙_}
+use mathlib.Core.Path.{_≡_, sym, ap, _∙_}
 use Prim.Native.Nat.{ℕ}
 use borrow.Author.Needs.{needs}
 use lib.ListN.{getD}
@@ -25,7 +25,10 @@ returns c =
 returns-2 : tie.Need-returns-2
 returns-2 c =
     let s = c .before .before in
-    sym (find-none (s .before .args .w) (λ i h e. c .if1 .left (c .before .row .ensures ∙ ap (λ (n : ℕ). getD rows n 0) (sym (s .place-of .ensures .1 i h e)) ∙ e)))
+    sym (find-none (s .before .args .w) (λ i h e. c .if1 .left (c .before .row .ensures ∙ read (sym (s .place-of .ensures .1 i h e)) ∙ e)))
+  where
+    read : {i j : ℕ} → i ≡ j → getD rows i 0 ≡ getD rows j 0
+    read e = ap (λ (n : ℕ). getD rows n 0) e
 
 pub find-spec : {M : Type 1} → statement M
 find-spec = tie.close (tie.spec place-of-requires row-requires cast-result returns returns-2)

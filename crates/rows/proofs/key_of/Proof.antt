@@ -23,10 +23,11 @@ cast-acc c = search needs
 
 loop-holds : tie.Need-loop-holds Inv-loop μ-loop
 loop-holds c =
-    let w = c .before .args .w in
-    (omega arith,
-    ap (λ (a : ℕ). digitsAfter a (from w 0)) (c .cost-of .ensures .0) ∙ ap (digitsAfter (cost (unpack 8 w))) (from-all w),
-    omega (arith, c .cost-of .ensures .1))
+    let w = c .before .args .w in (
+      omega arith,
+      ap (λ (a : ℕ). digitsAfter a (from w 0)) (c .cost-of .ensures .0) ∙ ap (digitsAfter (cost (unpack 8 w))) (from-all w),
+      omega (arith, c .cost-of .ensures .1),
+    )
 
 mul-acc : tie.Need-mul-acc Inv-loop μ-loop
 mul-acc c = omega (arith, room (c .before .loop .j) (omega arith))
@@ -49,12 +50,13 @@ loop-less c = search needs
 loop-again : tie.Need-loop-again Inv-loop μ-loop
 loop-again c =
     let l = c .before .before .loop in
-    let w = c .before .before .before .before .args .w in
-    (omega arith,
-    ap (λ (r : ℕ). digitsAfter (l .acc * 16 + r) (from w (l .j + 1))) (c .rank-at .ensures .0)
-    ∙ sym (ap (digitsAfter (l .acc)) (from-next w (l .j) (omega arith))) ∙ l .inv .1,
-    subst (λ (n : ℕ). l .acc * 16 + c .rank-at .result < 2 ^ n) (four (l .j))
-    (digit-more (13 + 4 * l .j) (l .acc) (c .rank-at .result) (l .inv .2) (c .rank-at .ensures .1)))
+    let w = c .before .before .before .before .args .w in (
+      omega arith,
+      ap (λ (r : ℕ). digitsAfter (l .acc * 16 + r) (from w (l .j + 1))) (c .rank-at .ensures .0)
+          ∙ sym (ap (digitsAfter (l .acc)) (from-next w (l .j) (omega arith))) ∙ l .inv .1,
+      subst (λ (n : ℕ). l .acc * 16 + c .rank-at .result < 2 ^ n) (four (l .j))
+          (digit-more (13 + 4 * l .j) (l .acc) (c .rank-at .result) (l .inv .2) (c .rank-at .ensures .1)),
+    )
   where
     four : (j : ℕ) → 13 + 4 * j + 4 ≡ 13 + 4 * (j + 1)
     four j = omega arith

@@ -44,13 +44,14 @@ loop-again c =
     let e : l .j ≡ i + 1 = omega arith in
     let r : getD v i 0 < 16 = below-at 16 v (c .before .before .pre) i (omega arith) in
     let d = digit-or (4 * (8 - l .j)) (l .acc) (getD v i 0) (l .inv .2) (omega arith) r in
-    (omega arith,
-    d ∙ sum (l .acc) (getD v i 0) (pack (drop (i + 1) v)) (l .inv .1 ∙ ap (λ (n : ℕ). pack (drop n v)) e) ∙ sym (ap pack (drop-next ℕ 0 v i (omega arith))),
-    subst (λ (x : ℕ). x < 2 ^ (4 * (8 - i))) (sym d)
-    (subst (λ (n : ℕ). l .acc * 16 + getD v i 0 < 2 ^ n) (four (l .j) (omega arith)) (digit-more (4 * (8 - l .j)) (l .acc) (getD v i 0) (l .inv .2) r)))
+    let s = sum (l .acc) (getD v i 0) (pack (drop (i + 1) v)) (l .inv .1 ∙ ap (λ (n : ℕ). pack (drop n v)) e) in
+    let m = digit-more (4 * (8 - l .j)) (l .acc) (getD v i 0) (l .inv .2) r in
+    let n = subst (λ (n : ℕ). l .acc * 16 + getD v i 0 < 2 ^ n) (four (l .j) (omega arith)) m in
+    (omega arith, d ∙ s ∙ sym (ap pack (drop-next ℕ 0 v i (omega arith))), subst (λ (x : ℕ). x < 2 ^ (4 * (8 - i))) (sym d) n)
   where
     sum : (a r p : ℕ) → a ≡ p → a * 16 + r ≡ r + 16 * p
     sum a r p q = omega arith
+
     four : (j : ℕ) → (0 < j) × (j ≤ 8) → 4 * (8 - j) + 4 ≡ 4 * (8 - (j - 1))
     four j h = omega arith
 

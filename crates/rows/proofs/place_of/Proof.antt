@@ -29,9 +29,11 @@ mul-lo c = omega (arith, c .class-of .ensures .1)
 
 loop-holds : tie.Need-loop-holds Inv-loop μ-loop
 loop-holds c =
-    let w = c .before .before .args .w in
-    (omega arith, omega (arith, c .class-of .ensures .1),
-    subst (λ (n : ℕ). Around w (2048 * n) 11) (sym (c .class-of .ensures .0)) (all-of-class w))
+    let w = c .before .before .args .w in (
+      omega arith,
+      omega (arith, c .class-of .ensures .1),
+      subst (λ (n : ℕ). Around w (2048 * n) 11) (sym (c .class-of .ensures .0)) (all-of-class w),
+    )
 
 sub-d : tie.Need-sub-d Inv-loop μ-loop
 sub-d c = search needs
@@ -55,11 +57,12 @@ loop-again : tie.Need-loop-again Inv-loop μ-loop
 loop-again c =
     let l = c .before .before .before .before .before .loop in
     let s = c .before .before .before .before .before .before .before in
-    let t =
-        turn-up (s .before .args .w) (l .lo) (l .d) (c .before .before .before .bit .result) (s .key-of .result) (c .before .key-of2 .result) (l .inv .2)
-        (omega arith) (c .before .before .before .bit .ensures .0) (s .key-of .ensures)
-        (c .before .key-of2 .ensures ∙ ap (λ (x : ℕ). key (unpack 8 x)) (c .before .before .row .ensures)) (c .if1 .taken) in
-    (omega arith, omega (arith, t .0), t .1)
+    let b = c .before .before .before .bit in
+    let k = c .before .key-of2 in
+    let r = k .ensures ∙ ap (λ (x : ℕ). key (unpack 8 x)) (c .before .before .row .ensures) in
+    let t = turn-up (s .before .args .w) (l .lo) (l .d) (b .result) (s .key-of .result) (k .result) (l .inv .2) (omega arith) in
+    let u = t (b .ensures .0) (s .key-of .ensures) r (c .if1 .taken) in
+    (omega arith, omega (arith, u .0), u .1)
 
 loop-less-2 : tie.Need-loop-less-2 Inv-loop μ-loop
 loop-less-2 c = search needs
@@ -68,10 +71,11 @@ loop-again-2 : tie.Need-loop-again-2 Inv-loop μ-loop
 loop-again-2 c =
     let l = c .before .before .before .before .before .loop in
     let s = c .before .before .before .before .before .before .before in
-    (omega arith, l .inv .1,
-    turn-down (s .before .args .w) (l .lo) (l .d) (c .before .before .before .bit .result) (s .key-of .result) (c .before .key-of2 .result) (l .inv .2)
-    (omega arith) (c .before .before .before .bit .ensures .0) (s .key-of .ensures)
-    (c .before .key-of2 .ensures ∙ ap (λ (x : ℕ). key (unpack 8 x)) (c .before .before .row .ensures)) (c .if1 .left))
+    let b = c .before .before .before .bit in
+    let k = c .before .key-of2 in
+    let r = k .ensures ∙ ap (λ (x : ℕ). key (unpack 8 x)) (c .before .before .row .ensures) in
+    let t = turn-down (s .before .args .w) (l .lo) (l .d) (b .result) (s .key-of .result) (k .result) (l .inv .2) (omega arith) in
+    (omega arith, l .inv .1, t (b .ensures .0) (s .key-of .ensures) r (c .if1 .left))
 
 returns : tie.Need-returns Inv-loop μ-loop
 returns c =

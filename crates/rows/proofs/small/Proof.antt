@@ -50,10 +50,11 @@ loop-again : tie.Need-loop-again Inv-loop μ-loop
 loop-again c =
     let l = c .before .before .loop in
     let v = c .before .before .before .args .t1 in
-    let eight : length v ≡ 8 = search needs in
-    (omega arith,
-    sym (ap (λ (b : Bool). b && ranksBelow 5 (drop (l .j + 1) v)) (lt-ltb (getD v (l .j) 0) 5 (omega arith)))
-    ∙ sym (next v (l .j) (omega arith)) ∙ l .inv .1)
+    let eight : length v ≡ 8 = search needs in (
+      omega arith,
+      sym (ap (λ (b : Bool). b && ranksBelow 5 (drop (l .j + 1) v)) (lt-ltb (getD v (l .j) 0) 5 (omega arith)))
+          ∙ sym (next v (l .j) (omega arith)) ∙ l .inv .1,
+    )
 
 returns-2 : tie.Need-returns-2 Inv-loop μ-loop
 unfolding ranksBelow

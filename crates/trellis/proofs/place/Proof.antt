@@ -3,6 +3,7 @@ use borrow.Author.Needs.{needs}
 use native.Mathlib.Omega.{arith}
 use mathlib.Core.Path.{sym, refl}
 use lib.ListN.{List·getD-eq-default}
+use Rattle.laws.specs.Lists.{tab}
 use Rattle.trellis.specs.Trio.{order, places}
 use Rattle.trellis.specs.TrioLaws.{places-length}
 use Rattle.trellis.proofs.place.Statement.{statement}
@@ -18,7 +19,7 @@ array-read-result : tie.Need-array-read-result
 array-read-result c = search needs
 
 returns-2 : tie.Need-returns-2
-unfolding order places
+unfolding order places tab
 returns-2 c = refl
 
 pub place-spec : {M : Type 1} → statement M
