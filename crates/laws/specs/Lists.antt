@@ -1,7 +1,7 @@
 -- Lists: one that a loop fills place by place, one that a loop takes apart, one after another. Assumes nothing.
 use mathlib.Core.Path.{_≡_, refl, ap, ap₂, sym, _∙_}
 use mathlib.Core.Bool.{Bool, true, false, cond}
-use mathlib.Core.List.{List, [], _∷_, _++_}
+use mathlib.Core.List.{List, [], _∷_, _++_, map}
 use mathlib.Core.List.{List, [], _∷_, _++_, List·Memᴰ, List·Memᴰ·head, List·Memᴰ·tail, List·Memᴰ·not-nil}
 use Prim.Native.Nat.{ℕ, zero, suc, _+_, _-_, _<_, _≤_, suc-le-suc}
 use mathlib.Core.Path.{_≡_, refl, ap, ap₂, sym, subst, _∙_}
@@ -212,3 +212,8 @@ stands-le x (y ∷ ys) = go (eqb y x) (stands-le x ys)
     go : (b : Bool) → standsAt x ys ≤ length ys → elim b [ true ↦ 0 | false ↦ suc (standsAt x ys) ] ≤ suc (length ys)
     go true l = zero-le
     go false l = suc-le-suc l
+-- ---- what f makes of each element
+pub map-at : (A B : Type 0) (f : A → B) (d : B) (e : A) (xs : List A) (k : ℕ) → k < length xs → getD (map f xs) k d ≡ f (getD xs k e)
+map-at A B f d e [] k h = absurd (not-suc-le-zero h)
+map-at A B f d e (x ∷ xs) zero h = refl
+map-at A B f d e (x ∷ xs) (suc k) h = map-at A B f d e xs k (le-of-suc-le-suc h)

@@ -1,0 +1,4 @@
+pub mod Lattice
+pub mod Tetra
+pub mod Orders
+pub mod PointLaws
