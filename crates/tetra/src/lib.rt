@@ -19,6 +19,12 @@ pub struct Bytes {
     pub c3: u8,
 }
 
+// What `encode` answers: number 0 and the word, or number 5 and word 0.
+pub struct Encoded {
+    pub number: u32,
+    pub word: u64,
+}
+
 // ---- from a word to its point
 // The member of o + 4Z at the rank `rho`.
 fn value(o: u32, rho: u32) -> i32
