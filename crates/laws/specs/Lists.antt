@@ -18,7 +18,7 @@ use borrow.Author.Tests.{eqb-true, eq-eqb}
 use lib.Dec.{eqb}
 use borrow.Author.Tests.{eq-eqb, eqb-true, lt-ltb, le-ltb, ltb-true, ltb-false}
 use lib.Dec.{eqb, ltb}
-use lib.ListN.{length, getD, set, drop}
+use lib.ListN.{length, getD, set, take, drop}
 use lib.Seq.{getD-set-same, getD-set-other, drop-cons, sets}
 
 -- f 0, f 1, .., n of them. It stays shut: at a large n it would be written out wherever it stands
@@ -217,3 +217,13 @@ pub map-at : (A B : Type 0) (f : A → B) (d : B) (e : A) (xs : List A) (k : ℕ
 map-at A B f d e [] k h = absurd (not-suc-le-zero h)
 map-at A B f d e (x ∷ xs) zero h = refl
 map-at A B f d e (x ∷ xs) (suc k) h = map-at A B f d e xs k (le-of-suc-le-suc h)
+
+pub map-take : (A B : Type 0) (f : A → B) (n : ℕ) (xs : List A) → map f (take n xs) ≡ take n (map f xs)
+map-take A B f zero xs = refl
+map-take A B f (suc n) [] = refl
+map-take A B f (suc n) (x ∷ xs) = ap (λ (l : List B). f x ∷ l) (map-take A B f n xs)
+
+pub map-drop : (A B : Type 0) (f : A → B) (n : ℕ) (xs : List A) → map f (drop n xs) ≡ drop n (map f xs)
+map-drop A B f zero xs = refl
+map-drop A B f (suc n) [] = refl
+map-drop A B f (suc n) (x ∷ xs) = map-drop A B f n xs

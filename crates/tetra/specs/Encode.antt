@@ -22,8 +22,11 @@ use Rattle.tetra.specs.declared.Encoded.{Encoded}
 abbrev pub noWord : ℕ
 noWord = 5
 
+abbrev pub refusedWith : ℕ → Encoded
+refusedWith n = record { number = n; word = 0 }
+
 abbrev pub refused : Encoded
-refused = record { number = noWord; word = 0 }
+refused = refusedWith noWord
 
 -- ---- the four tests, in the order in which they are made
 -- the parity of the first coordinate, which is that of all
@@ -49,7 +52,12 @@ rightSum y = eqb (modZ (kSum y) 2) (parityAt y)
 unfoldable pub encodable : List ℤ → Bool
 encodable y = oneParity y && (inCode y && (inBounds y && rightSum y))
 
--- ---- the word's fields: parity, classes and rows of the sections, the codeword's label in parts, gain 0
+-- ---- the word's fields: the parity p, the label x of the codeword in parts, the class of the first section, the rows of all three, gain 0
+abbrev pub fieldsBy : ℕ → ℕ → ℕ → ℕ → ℕ → ℕ → Fields
+fieldsBy p x r i1 i2 i3 =
+    record { p = p; r = r; s8 = s8Of x; b1 = b1Of x; i1 = i1; b2 = b2Of x; i2 = i2; b3 = b3Of x; i3 = i3; gain = 0 }
+
+-- the class and the index of an answer
 abbrev pub seatClass : Seated → ℕ
 seatClass (At c i) = c
 seatClass Nothing = 0
@@ -60,18 +68,8 @@ seatIndex Nothing = 0
 
 unfoldable pub fieldsFor : List ℤ → Fields
 fieldsFor y =
-    record {
-      p = parityAt y;
-      r = seatClass (classIndexOf (sectionRanks y 0));
-      s8 = s8Of (labelFor y);
-      b1 = b1Of (labelFor y);
-      i1 = seatIndex (classIndexOf (sectionRanks y 0));
-      b2 = b2Of (labelFor y);
-      i2 = seatIndex (mixedIndexOf (sectionRanks y 1));
-      b3 = b3Of (labelFor y);
-      i3 = seatIndex (classIndexOf (sectionRanks y 2));
-      gain = 0;
-    }
+    fieldsBy (parityAt y) (labelFor y) (seatClass (classIndexOf (sectionRanks y 0))) (seatIndex (classIndexOf (sectionRanks y 0)))
+    (seatIndex (mixedIndexOf (sectionRanks y 1))) (seatIndex (classIndexOf (sectionRanks y 2)))
 
 -- ---- the answer
 unfoldable pub encodeOf : List ℤ → Encoded

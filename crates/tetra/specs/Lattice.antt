@@ -33,9 +33,12 @@ pub record LatticePoint (y : List ℤ) : Type 0 where
   pub codeword : Codeword (bitsOf (trio y))
   pub sum-of-k : modZ (kSum y) 2 ≡ p
 
--- the ranks of section s, which is 0, 1 or 2: eight coordinates of trio order
+-- section s, which is 0, 1 or 2: eight coordinates of trio order
+abbrev pub section : List ℤ → ℕ → List ℤ
+section y s = take 8 (drop (8 * s) (trio y))
+
 abbrev pub sectionRanks : List ℤ → ℕ → List ℕ
-sectionRanks y s = take 8 (drop (8 * s) (ranksOf (trio y)))
+sectionRanks y s = ranksOf (section y s)
 
 -- the ranks meet the bound of their own class
 abbrev pub inOwnClass : List ℕ → Bool

@@ -5,3 +5,4 @@ pub mod Orders
 pub mod PointLaws
 pub mod WordLaws
 pub mod Demand2
+pub mod Points

@@ -10,11 +10,12 @@ use lib.Dec.{T, leb, leb→le}
 use lib.IntN.{ℤ, pos, natAbs}
 use lib.ListN.{length, getD, take, drop}
 use Rattle.laws.specs.Tests.{upto, below2}
+use Rattle.laws.specs.Lists.{map-take, map-drop}
 use Rattle.laws.specs.Whole.{modZ}
 use Rattle.laws.specs.Bits.{weight}
 use Rattle.word.specs.Word.{Narrow}
 use Rattle.word.specs.declared.Fields.{Fields}
-use Rattle.rank.specs.Coord.{valOf}
+use Rattle.rank.specs.Coord.{rankOf, valOf}
 use Rattle.rank.specs.Vector.{ranksBelow, kZero, class}
 use Rattle.rank.specs.VectorLaws.{rank-first, rank-rest}
 use Rattle.rank.specs.Section.{pointAt, uniform, bitsOf, ranksOf, kSum}
@@ -31,6 +32,10 @@ use Rattle.tetra.specs.Lattice.{Codeword}
 use Rattle.tetra.specs.Tetra.{codewordAt, thirdClass, ranksAt, trioPoint}
 
 -- ---- ranks one after another
+-- the ranks of a part are that part of the ranks
+pub ranks-part : (m : ℕ) (t : List ℤ) → ranksOf (take 8 (drop m t)) ≡ take 8 (drop m (ranksOf t))
+ranks-part m t = map-take ℤ ℕ rankOf 8 (drop m t) ∙ ap (take 8) (map-drop ℤ ℕ rankOf m t)
+
 pub below-append : (b : ℕ) (u v : List ℕ) → T (ranksBelow b u) → T (ranksBelow b v) → T (ranksBelow b (u ++ v))
 below-append b [] v s t = t
 below-append b (r ∷ u) v s t = more-below b r (u ++ v) (rank-first b r u s) (below-append b u v (rank-rest b r u s) t)
@@ -159,17 +164,17 @@ module _ (f : Fields) (n : Narrow f) where
   ranks-are = point-ranks (f .p) (n .p) (codewordAt f) (ranksAt f) ranks-below
 
   -- section by section
-  pub first-is : take 8 (drop 0 (ranksOf (trioPoint f))) ≡ rowRanks (2048 * f .r + f .i1)
+  pub first-is : ranksOf (take 8 (drop 0 (trioPoint f))) ≡ rowRanks (2048 * f .r + f .i1)
   unfolding ranksAt rowRanks
-  first-is = ap (take 8) ranks-are
+  first-is = ranks-part 0 (trioPoint f) ∙ ap (take 8) ranks-are
 
-  pub second-is : take 8 (drop 8 (ranksOf (trioPoint f))) ≡ rowRanks (middleRow (f .i2))
+  pub second-is : ranksOf (take 8 (drop 8 (trioPoint f))) ≡ rowRanks (middleRow (f .i2))
   unfolding ranksAt rowRanks
-  second-is = ap (λ (v : List ℕ). take 8 (drop 8 v)) ranks-are
+  second-is = ranks-part 8 (trioPoint f) ∙ ap (λ (v : List ℕ). take 8 (drop 8 v)) ranks-are
 
-  pub third-is : take 8 (drop 16 (ranksOf (trioPoint f))) ≡ rowRanks (2048 * thirdClass f + f .i3)
+  pub third-is : ranksOf (take 8 (drop 16 (trioPoint f))) ≡ rowRanks (2048 * thirdClass f + f .i3)
   unfolding ranksAt rowRanks
-  third-is = ap (λ (v : List ℕ). take 8 (drop 16 v)) ranks-are
+  third-is = ranks-part 16 (trioPoint f) ∙ ap (λ (v : List ℕ). take 8 (drop 16 v)) ranks-are
 
   -- the classes of the sections add up to p
   pub point-sum : modZ (kSum (trioPoint f)) 2 ≡ f .p

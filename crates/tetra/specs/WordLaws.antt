@@ -31,22 +31,23 @@ use Rattle.trellis.specs.Code.{wordOf as codeOf, columns, label}
 use Rattle.trellis.specs.Trellis.{labelOf, s8Of, b1Of, b2Of, b3Of}
 use Rattle.trellis.specs.CodeLaws.{label-low}
 use Rattle.trellis.specs.Back.{label-word, label-iff, label-at, label-parts, parts-label}
-use Rattle.tetra.specs.Lattice.{trio, Codeword, LatticePoint, sectionRanks, inOwnClass, HasWord}
+use Rattle.tetra.specs.Lattice.{trio, Codeword, LatticePoint, section, sectionRanks, inOwnClass, HasWord}
 use Rattle.tetra.specs.Tetra.{codewordAt, thirdClass, ranksAt, trioPoint, natural, trioPointOf, pointOf}
 use Rattle.tetra.specs.Encode.{parityAt, oneParity, labelFor, inCode, inBounds, rightSum, encodable, seatClass, seatIndex, fieldsFor}
 use Rattle.tetra.specs.Orders.{trio-length, natural-length, trio-natural, parity-natural, parity-trio, uniform-at, at-uniform, k-order}
-use Rattle.tetra.specs.PointLaws.{below-append, class-three, k-classes, third-lt, point-size, point-parity, bits-are, first-row, third-row, point-codeword, point-sum, first-is, second-is, third-is}
+use Rattle.tetra.specs.PointLaws.{ranks-part, below-append, class-three, k-classes, third-lt, point-size, point-parity, bits-are, first-row, third-row, point-codeword, point-sum, first-is, second-is, third-is}
 
 -- ---- the sections of a point
-ranks-length : (y : List ℤ) → length (ranksOf (trio y)) ≡ 24
-ranks-length y = length-map (trio y) rankOf ∙ trio-length y
-
 pub section-length : (y : List ℤ) (s : ℕ) → s < 3 → length (sectionRanks y s) ≡ 8
 section-length y s h =
-    length-take-le 8 (drop (8 * s) (ranksOf (trio y))) (omega (arith, length-drop (8 * s) (ranksOf (trio y)), ranks-length y))
+    length-map (section y s) rankOf
+    ∙ length-take-le 8 (drop (8 * s) (trio y)) (omega (arith, length-drop (8 * s) (trio y), trio-length y))
 
 pub sections : (y : List ℤ) → sectionRanks y 0 ++ (sectionRanks y 1 ++ sectionRanks y 2) ≡ ranksOf (trio y)
-sections y = parts (ranksOf (trio y)) (ranks-length y)
+sections y =
+    let t = trio y in
+    ap₂ (λ (a b : List ℕ). a ++ b) (ranks-part 0 t) (ap₂ (λ (a b : List ℕ). a ++ b) (ranks-part 8 t) (ranks-part 16 t))
+    ∙ parts (ranksOf t) (length-map t rankOf ∙ trio-length y)
   where
     parts : (v : List ℕ) → length v ≡ 24 → take 8 v ++ (take 8 (drop 8 v) ++ take 8 (drop 16 v)) ≡ v
     parts v e =
@@ -225,13 +226,13 @@ trio-of w = trio-natural (trioPoint (fieldsOf w)) (point-size (fieldsOf w) (spli
 module _ (w : ℕ) where
   -- the ranks of its sections
   section0 : sectionRanks (pointOf w) 0 ≡ rowRanks (2048 * fieldsOf w .r + fieldsOf w .i1)
-  section0 = ap (λ (t : List ℤ). take 8 (drop 0 (ranksOf t))) (trio-of w) ∙ first-is (fieldsOf w) (split-narrow w)
+  section0 = ap (λ (t : List ℤ). ranksOf (take 8 (drop 0 t))) (trio-of w) ∙ first-is (fieldsOf w) (split-narrow w)
 
   section1 : sectionRanks (pointOf w) 1 ≡ rowRanks (middleRow (fieldsOf w .i2))
-  section1 = ap (λ (t : List ℤ). take 8 (drop 8 (ranksOf t))) (trio-of w) ∙ second-is (fieldsOf w) (split-narrow w)
+  section1 = ap (λ (t : List ℤ). ranksOf (take 8 (drop 8 t))) (trio-of w) ∙ second-is (fieldsOf w) (split-narrow w)
 
   section2 : sectionRanks (pointOf w) 2 ≡ rowRanks (2048 * thirdClass (fieldsOf w) + fieldsOf w .i3)
-  section2 = ap (λ (t : List ℤ). take 8 (drop 16 (ranksOf t))) (trio-of w) ∙ third-is (fieldsOf w) (split-narrow w)
+  section2 = ap (λ (t : List ℤ). ranksOf (take 8 (drop 16 t))) (trio-of w) ∙ third-is (fieldsOf w) (split-narrow w)
 
   one-parity-of : (i : ℕ) → i < 24 → parityOf (getD (pointOf w) i (pos 0)) ≡ fieldsOf w .p
   unfolding pointOf trioPointOf
