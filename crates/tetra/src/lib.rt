@@ -1,16 +1,19 @@
 // The tetra code: 48-bit words to points of the Leech lattice, and back.
 ghost use mathlib.Core.Path.{_≡_};
 ghost use mathlib.Core.List.{_++_};
-ghost use Prim.Native.Nat.{_+_, _%_, _<_};
+ghost use Prim.Native.Nat.{_*_, _<_};
 ghost use lib.Dec.{T};
 ghost use lib.IntN.{pos};
-ghost use lib.ListN.{getD};
-ghost use Rattle.word.specs.Word.{Narrow};
+ghost use lib.ListN.{getD, take, drop};
+ghost use Rattle.word.specs.Word.{Narrow, wordOf};
 ghost use Rattle.rank.specs.Coord.{valOf};
 ghost use Rattle.rank.specs.Vector.{ranksBelow};
-ghost use Rattle.rank.specs.Section.{pointAt};
+ghost use Rattle.rank.specs.Section.{pointAt, uniform, bitsOf};
+ghost use Rattle.rank.specs.Answers.{marksOf};
 ghost use Rattle.rows.specs.Table.{rowRanks, middleClass, middleRow};
+ghost use Rattle.tetra.specs.Lattice.{trio};
 ghost use Rattle.tetra.specs.Tetra.{trioPoint, trioPointOf, natural, pointOf, patternsOf};
+ghost use Rattle.tetra.specs.Encode.{refused, fieldsBy, encodeOf};
 
 // The bytes of a codeword: one for each section.
 pub struct Bytes {
@@ -162,5 +165,126 @@ pub fn patterns(word: u64) -> Bytes
         c1: (c & 255) as u8,
         c2: ((c >> 8) & 255) as u8,
         c3: ((c >> 16) & 255) as u8,
+    }
+}
+
+// ---- from a point to its word
+// No word decodes to the point.
+const NO_WORD: u32 = 5;
+
+fn refused() -> Encoded
+    ensures { λ r. ⌜ r ≡ refused ⌝ }
+{
+    Encoded {
+        number: NO_WORD,
+        word: 0,
+    }
+}
+
+// Whether all coordinates have parity `p`.
+fn one_parity(y: [i32; 24], p: u32) -> bool
+    ensures { λ r. ⌜ r ≡ uniform p y ⌝ }
+{
+    let mut j: usize = 0;
+    while j < 24 {
+        if rank::parity(y[j]) != p {
+            return false;
+        }
+        j += 1;
+    }
+    true
+}
+
+// From natural order to trio order.
+fn to_trio(y: [i32; 24]) -> [i32; 24]
+    ensures { λ r. ⌜ r ≡ trio y ⌝ }
+{
+    let mut out = [0i32; 24];
+    let mut j: usize = 0;
+    while j < 24 {
+        let i = trellis::order(j);
+        out[j] = y[i];
+        j += 1;
+    }
+    out
+}
+
+// The bits of the coordinates, coordinate 0 lowest, from the last to the first.
+fn bits(t: [i32; 24]) -> u32
+    ensures { λ r. ⌜ r ≡ bitsOf t ⌝ }
+{
+    let mut c: u32 = 0;
+    let mut j: usize = 24;
+    while 0 < j {
+        j -= 1;
+        c = (c << 1) | rank::bit(t[j]);
+    }
+    c
+}
+
+// The rank marks of section `s`.
+fn marks(t: [i32; 24], s: usize) -> [u32; 8]
+    requires { ⌜ s < 3 ⌝ }
+    ensures { λ r. ⌜ r ≡ marksOf (take 8 (drop (8 * s) t)) ⌝ }
+{
+    let mut rho = [0u32; 8];
+    let mut j: usize = 0;
+    while j < 8 {
+        rho[j] = rank::mark(t[8 * s + j]);
+        j += 1;
+    }
+    rho
+}
+
+// The word of fields that fit: parity `p`, the codeword of the label `x`, class `r` and the rows of the sections.
+fn word_by(p: u32, x: u32, r: u32, i1: u16, i2: u16, i3: u16) -> u64
+    requires { ⌜ Narrow (fieldsBy p x r i1 i2 i3) ⌝ }
+    ensures { λ w. ⌜ w ≡ wordOf (fieldsBy p x r i1 i2 i3) ⌝ }
+{
+    let f = word::Fields {
+        p: p as u8,
+        r: r as u8,
+        s8: (x & 63) as u8,
+        b1: ((x >> 6) & 1) as u8,
+        i1,
+        b2: ((x >> 7) & 15) as u8,
+        i2,
+        b3: ((x >> 11) & 1) as u8,
+        i3,
+        gain: 0,
+    };
+    let j = f.join();
+    j.word
+}
+
+// The word that decodes to a point given in natural order, with gain 0; or the refusal. The four tests stand in this order: one parity, a
+// codeword of bits, three sections within their bounds, and the sum of k, which shows in the third section's class.
+pub fn encode(point: [i32; 24]) -> Encoded
+    ensures { λ r. ⌜ r ≡ encodeOf point ⌝ }
+{
+    let p = rank::parity(point[0]);
+    if !one_parity(point, p) {
+        return refused();
+    }
+    let t = to_trio(point);
+    let x = trellis::label_of(bits(t));
+    if 4096 <= x {
+        return refused();
+    }
+    let rows::Seated::At { class: r, index: i1 } = rows::class_index(marks(t, 0)) else {
+        return refused();
+    };
+    let rows::Seated::At { class: d, index: i2 } = rows::mixed_index(marks(t, 1)) else {
+        return refused();
+    };
+    let rows::Seated::At { class: r3, index: i3 } = rows::class_index(marks(t, 2)) else {
+        return refused();
+    };
+    if r3 != (p + r + d) % 2 {
+        return refused();
+    }
+    Encoded {
+        number: 0,
+        word: word_by(p, x, r, i1, i2, i3),
     }
 }
