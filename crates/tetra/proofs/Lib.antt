@@ -1,2 +1,3 @@
-pub mod Decoded
+pub mod Decoding
 pub mod Rows
+pub mod Encoding

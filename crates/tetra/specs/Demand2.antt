@@ -1,7 +1,7 @@
 -- DEMAND 2: words and points, both ways. `pointOf w` is what `decode` answers for the word w, `encodeOf y` what `encode` answers for the
 -- point y; w is any number, so every 64-bit word. Assumes nothing.
 use mathlib.Core.Path.{_≡_, refl, ap, ap₂, sym, subst, _∙_}
-use mathlib.Core.Bool.{Bool, true, false, cond}
+use mathlib.Core.Bool.{Bool, true, false}
 use mathlib.Core.Logic.{_↔_}
 use mathlib.Core.List.{List}
 use Prim.Native.Nat.{ℕ, _%_, _^_, _<_, _≤_}
@@ -14,12 +14,9 @@ use Rattle.laws.specs.Tests.{is-true, is-false}
 use Rattle.word.specs.Word.{fieldsOf, wordOf}
 use Rattle.word.specs.Laws.{split-narrow, split-join, no-gain-split, no-gain-lt}
 use Rattle.word.specs.declared.Fields.{Fields}
-use Rattle.rank.specs.Vector.{class, inClass, inMiddle}
-use Rattle.rows.specs.Rule.{row-in}
-use Rattle.rows.specs.Middle.{middle-row-in}
 use Rattle.trellis.specs.Trio.{places}
 use Rattle.trellis.specs.TrioLaws.{trio-fits}
-use Rattle.tetra.specs.Lattice.{trio, LatticePoint, sectionRanks, inOwnClass, HasWord}
+use Rattle.tetra.specs.Lattice.{HasWord}
 use Rattle.tetra.specs.Tetra.{trioPoint, natural, trioPointOf, pointOf}
 use Rattle.tetra.specs.Encode.{noWord, refused, encodable, fieldsFor, encodeOf}
 use Rattle.tetra.specs.Orders.{natural-length, natural-at, natural-trio}
@@ -42,7 +39,7 @@ pub decodes : (w : ℕ) → HasWord (pointOf w)
 decodes = decoded
 
 -- ---- what is answered: the word where the tests pass, and the refusal elsewhere
-encode-in : (y : List ℤ) → T (encodable y) → encodeOf y ≡ record { number = 0; word = wordOf (fieldsFor y) }
+pub encode-in : (y : List ℤ) → T (encodable y) → encodeOf y ≡ record { number = 0; word = wordOf (fieldsFor y) }
 unfolding encodeOf
 encode-in y t = rw (is-true (encodable y) t)
 

@@ -22,7 +22,7 @@ use Rattle.rank.specs.Section.{pointAt, uniform, bitsOf, ranksOf, kSum}
 use Rattle.rank.specs.SectionLaws.{point-uniform, point-bits, point-ranks, point-length, k-sum}
 use Rattle.rows.specs.Table.{rowRanks, middleClass, middleRow}
 use Rattle.rows.specs.Vectors.{below-up, more-below, below-at}
-use Rattle.rows.specs.Rule.{row-length, row-class, row-ranks}
+use Rattle.rows.specs.Rule.{row-class, row-ranks}
 use Rattle.rows.specs.Places.{number-class}
 use Rattle.rows.specs.Middle.{middle-lt, middle-row-class}
 use Rattle.trellis.specs.Code.{wordOf, columns, label}

@@ -1,47 +1,45 @@
 -- The fields of a point that has a word: they fit, their point is the point, and those of a word's point are the word's. Assumes nothing.
-use mathlib.Core.Path.{_≡_, refl, ap, ap₂, sym, subst, _∙_}
-use mathlib.Core.Bool.{Bool, true, false, cond, _&&_}
-use mathlib.Core.Logic.{_↔_}
+use mathlib.Core.Path.{_≡_, ap, ap₂, sym, subst, _∙_}
+use mathlib.Core.Bool.{_&&_}
 use mathlib.Core.List.{List, _++_}
-use Prim.Native.Nat.{ℕ, _+_, _*_, _/_, _%_, _<_, _≤_}
-use native.Mathlib.Nat.{min-le-left, mod-lt, mod-eq-of-lt, zero-lt-suc}
+use Prim.Native.Nat.{ℕ, _+_, _*_, _%_, _<_}
+use native.Mathlib.Nat.{mod-lt, zero-lt-suc}
 use native.Mathlib.Omega.{arith}
 use lib.Dec.{T, ltb, eqb, ltb→lt, lt→ltb, eqb→eq}
 use lib.IntN.{ℤ, pos}
-use lib.ListN.{length, getD, take, drop, length-map, length-take, length-drop, take-append-drop}
+use lib.ListN.{length, getD, take, drop, length-map, length-drop, take-append-drop}
 use lib.Seq.{take-all, drop-drop, length-take-le}
-use Rattle.laws.specs.Tests.{and-left, and-right, and-in, split4, split3, eq→eqb, is-true}
+use Rattle.laws.specs.Tests.{and-in, split4, split3, eq→eqb}
 use Rattle.laws.specs.Whole.{modZ, mod2-lt}
-use Rattle.word.specs.Word.{Narrow, fieldsOf, wordOf}
+use Rattle.word.specs.Word.{Narrow, fieldsOf}
 use Rattle.word.specs.Laws.{noGain, split-narrow}
 use Rattle.word.specs.declared.Fields.{Fields}
 use Rattle.rank.specs.Coord.{parityOf, rankOf}
-use Rattle.rank.specs.Vector.{ranksBelow, class, inClass, inMiddle}
+use Rattle.rank.specs.Vector.{ranksBelow, class, inMiddle}
 use Rattle.rank.specs.Section.{pointAt, uniform, bitsOf, ranksOf, kSum}
 use Rattle.rank.specs.SectionLaws.{point-back}
-use Rattle.rows.specs.Table.{rowRanks, classIndexOf, mixedIndexOf, middleClass, middleRow}
+use Rattle.rows.specs.Table.{rowRanks, classIndexOf, mixedIndexOf, middleRow}
 use Rattle.rows.specs.Vectors.{below-up, class-ranks, middle-class}
-use Rattle.rows.specs.Rule.{row-in, row-class}
-use Rattle.rows.specs.Places.{number-class}
+use Rattle.rows.specs.Rule.{row-in}
 use Rattle.rows.specs.Middle.{middle-row-in}
 use Rattle.rows.specs.Answers.{class-index-in, class-index-row, mixed-index-in, mixed-index-row, mixed-index-back}
-use Rattle.rows.specs.declared.Seated.{Seated}
-use Rattle.rows.specs.declared.Seated.the-variants.{At, Nothing}
-use Rattle.trellis.specs.Code.{wordOf as codeOf, columns, label}
+use Rattle.rows.specs.declared.Seated.the-variants.{At}
+use Rattle.trellis.specs.Code.{wordOf, columns, label}
 use Rattle.trellis.specs.Trellis.{labelOf, s8Of, b1Of, b2Of, b3Of}
 use Rattle.trellis.specs.CodeLaws.{label-low}
 use Rattle.trellis.specs.Back.{label-word, label-iff, label-at, label-parts, parts-label}
-use Rattle.tetra.specs.Lattice.{trio, Codeword, LatticePoint, section, sectionRanks, inOwnClass, HasWord}
-use Rattle.tetra.specs.Tetra.{codewordAt, thirdClass, ranksAt, trioPoint, natural, trioPointOf, pointOf}
-use Rattle.tetra.specs.Encode.{parityAt, oneParity, labelFor, inCode, inBounds, rightSum, encodable, seatClass, seatIndex, fieldsFor}
+use Rattle.tetra.specs.Lattice.{trio, Codeword, section, sectionRanks, inOwnClass, HasWord}
+use Rattle.tetra.specs.Tetra.{codewordAt, thirdClass, ranksAt, trioPoint, trioPointOf, pointOf}
+use Rattle.tetra.specs.Encode.{parityAt, oneParity, labelFor, inCode, inBounds, rightSum, encodable, fieldsFor}
 use Rattle.tetra.specs.Orders.{trio-length, natural-length, trio-natural, parity-natural, parity-trio, uniform-at, at-uniform, k-order}
 use Rattle.tetra.specs.PointLaws.{ranks-part, below-append, class-three, k-classes, third-lt, point-size, point-parity, bits-are, first-row, third-row, point-codeword, point-sum, first-is, second-is, third-is}
 
 -- ---- the sections of a point
+pub section-size : (y : List ℤ) (s : ℕ) → s < 3 → length (section y s) ≡ 8
+section-size y s h = length-take-le 8 (drop (8 * s) (trio y)) (omega (arith, length-drop (8 * s) (trio y), trio-length y))
+
 pub section-length : (y : List ℤ) (s : ℕ) → s < 3 → length (sectionRanks y s) ≡ 8
-section-length y s h =
-    length-map (section y s) rankOf
-    ∙ length-take-le 8 (drop (8 * s) (trio y)) (omega (arith, length-drop (8 * s) (trio y), trio-length y))
+section-length y s h = length-map (section y s) rankOf ∙ section-size y s h
 
 pub sections : (y : List ℤ) → sectionRanks y 0 ++ (sectionRanks y 1 ++ sectionRanks y 2) ≡ ranksOf (trio y)
 sections y =
@@ -132,18 +130,18 @@ module _ (y : List ℤ) (h : HasWord y) where
       parity-trio (parityAt y) y (λ i l. h .point .one-parity i l ∙ sym (h .point .one-parity 0 (omega arith)))
 
   -- the row of each section
-  row0 : (i : ℕ) × (i < 2048) × (rowRanks (2048 * class (sectionRanks y 0) + i) ≡ sectionRanks y 0)
+  pub row0 : (i : ℕ) × (i < 2048) × (rowRanks (2048 * class (sectionRanks y 0) + i) ≡ sectionRanks y 0)
       × (classIndexOf (sectionRanks y 0) ≡ At (class (sectionRanks y 0)) i)
   row0 = class-index-in (sectionRanks y 0) (section-length y 0 (omega arith)) (h .first)
 
-  row1 : (i : ℕ) × (i < 2048) × (rowRanks (middleRow i) ≡ sectionRanks y 1) × (mixedIndexOf (sectionRanks y 1) ≡ At (class (sectionRanks y 1)) i)
+  pub row1 : (i : ℕ) × (i < 2048) × (rowRanks (middleRow i) ≡ sectionRanks y 1) × (mixedIndexOf (sectionRanks y 1) ≡ At (class (sectionRanks y 1)) i)
   row1 = mixed-index-in (sectionRanks y 1) (section-length y 1 (omega arith)) (h .second)
 
-  row2 : (i : ℕ) × (i < 2048) × (rowRanks (2048 * class (sectionRanks y 2) + i) ≡ sectionRanks y 2)
+  pub row2 : (i : ℕ) × (i < 2048) × (rowRanks (2048 * class (sectionRanks y 2) + i) ≡ sectionRanks y 2)
       × (classIndexOf (sectionRanks y 2) ≡ At (class (sectionRanks y 2)) i)
   row2 = class-index-in (sectionRanks y 2) (section-length y 2 (omega arith)) (h .third)
 
-  label-lt : labelFor y < 4096
+  pub label-lt : labelFor y < 4096
   label-lt = code-label (bitsOf (trio y)) (h .point .codeword)
 
   -- the fields by these rows
@@ -185,17 +183,21 @@ module _ (y : List ℤ) (h : HasWord y) where
   pub fields-narrow : Narrow (fieldsFor y)
   fields-narrow = subst Narrow (sym fields-found) found-narrow
 
-  found-third : thirdClass found ≡ class (sectionRanks y 2)
-  unfolding thirdClass found
-  found-third =
-      let m = mixed-index-back (sectionRanks y 1) (section-length y 1 (omega arith)) (class (sectionRanks y 1)) (row1 .0) (row1 .3) in
-      ap (λ (c : ℕ). (parityAt y + class (sectionRanks y 0) + c) % 2) (m .1)
-      ∙ owed (parityAt y) (class (sectionRanks y 0)) (class (sectionRanks y 1)) (class (sectionRanks y 2)) (omega arith)
+  -- section 3 owes what the first two did not pay
+  pub third-owes : (parityAt y + class (sectionRanks y 0) + class (sectionRanks y 1)) % 2 ≡ class (sectionRanks y 2)
+  third-owes =
+      owed (parityAt y) (class (sectionRanks y 0)) (class (sectionRanks y 1)) (class (sectionRanks y 2)) (omega arith)
       (sym (sum-classes (parityAt y) y (h .point .size) one-parity (h .point .codeword) (h .first) (h .second) (h .third))
       ∙ h .point .sum-of-k ∙ sym (h .point .one-parity 0 (omega arith)))
     where
       owed : (p a b c : ℕ) → c < 2 → (a + b + c) % 2 ≡ p → (p + a + b) % 2 ≡ c
       owed p a b c l e = omega arith
+
+  found-third : thirdClass found ≡ class (sectionRanks y 2)
+  unfolding thirdClass found
+  found-third =
+      let m = mixed-index-back (sectionRanks y 1) (section-length y 1 (omega arith)) (class (sectionRanks y 1)) (row1 .0) (row1 .3) in
+      ap (λ (c : ℕ). (parityAt y + class (sectionRanks y 0) + c) % 2) (m .1) ∙ third-owes
 
   found-ranks : ranksAt found ≡ ranksOf (trio y)
   unfolding ranksAt found
@@ -207,7 +209,7 @@ module _ (y : List ℤ) (h : HasWord y) where
   found-code : codewordAt found ≡ bitsOf (trio y)
   unfolding codewordAt found
   found-code =
-      ap (codeOf columns) (parts-label (labelFor y)) ∙ label-low (labelFor y) ∙ label-word (bitsOf (trio y)) label-lt
+      ap (wordOf columns) (parts-label (labelFor y)) ∙ label-low (labelFor y) ∙ label-word (bitsOf (trio y)) label-lt
 
   found-point : trioPoint found ≡ trio y
   unfolding trioPoint found

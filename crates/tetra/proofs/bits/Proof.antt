@@ -1,23 +1,21 @@
-use native.Mathlib.Nat.{pow-suc}
-use mathlib.Core.Path.{_≡_, refl, ap, sym, subst, _∙_}
+-- `tetra::bits`: the bits from coordinate j on. Assumes nothing.
+use mathlib.Core.Path.{_≡_, ap, sym, subst, _∙_}
 use Prim.Native.Nat.{ℕ, suc, _+_, _*_, _-_, _%_, _^_, _≤_, _<_}
-use lib.ListN.{length, getD, drop, drop-of-length-le}
-use lib.IntN.{ℤ, pos}
-use lib.Bits.{bitOr, or-shifted}
-use lib.Pow.{shl-exact}
+use native.Mathlib.Nat.{pow-suc}
+use native.Mathlib.Omega.{arith}
+use borrow.Author.Needs.{needs}
 use mir.Syntax.{w32}
 use mir.Val.{SFits}
 use mir.Facts.{toZ-ofZ}
+use lib.ListN.{length, getD, drop}
+use lib.IntN.{pos}
+use lib.Bits.{bitOr, or-shifted}
+use lib.Pow.{shl-exact}
 use Rattle.rank.specs.Coord.{bitOf}
 use Rattle.rank.specs.Section.{bitsOf}
 use Rattle.tetra.proofs.Rows.{bits-next, bits-end}
-use borrow.Author.Needs.{needs}
-use native.Mathlib.Omega.{arith}
 use Rattle.tetra.proofs.bits.Statement.{statement}
 use Rattle.tetra.proofs.bits.Tie as tie
-use Rattle.tetra.proofs.bits.Reads as reads
-use Rattle.tetra.proofs.bits.Lts as lts
-use Rattle.rank.proofs.bit.Reads as bit-reads
 
 abbrev Inv-loop : tie.InvT-loop
 Inv-loop t c₀ j₀ c j = (j ≤ 24) × (c ≡ bitsOf (drop j t)) × (c < 2 ^ (24 - j))
@@ -25,33 +23,26 @@ Inv-loop t c₀ j₀ c j = (j ≤ 24) × (c ≡ bitsOf (drop j t)) × (c < 2 ^ (
 abbrev μ-loop : tie.MeasureT-loop
 μ-loop t c₀ j₀ c j = j
 
--- src/lib.rt:218:5
 loop-holds : tie.Need-loop-holds Inv-loop μ-loop
 loop-holds c =
     let e : length (c .args .t1) ≡ 24 = search needs in
     (omega arith, sym (bits-end (c .args .t1) e), omega arith)
 
--- src/lib.rt:219:9
 sub-j : tie.Need-sub-j Inv-loop μ-loop
 sub-j c = search needs
 
--- src/lib.rt:220:34
 mul-bit : tie.Need-mul-bit Inv-loop μ-loop
 mul-bit c = search needs
 
--- src/lib.rt:220:34
 array-copy-out-bit : tie.Need-array-copy-out-bit Inv-loop μ-loop
 array-copy-out-bit c = search needs
 
--- src/lib.rt:220:24
 bit-requires : tie.Need-bit-requires Inv-loop μ-loop
 bit-requires c κs = search needs
 
--- src/lib.rt:218:5
 loop-less : tie.Need-loop-less Inv-loop μ-loop
 loop-less c = search needs
 
--- src/lib.rt:218:5
 loop-again : tie.Need-loop-again Inv-loop μ-loop
 loop-again c =
     let l = c .before .before .before .loop in
@@ -78,7 +69,6 @@ loop-again c =
     more : (n c b : ℕ) → c < 2 ^ n → b < 2 → c * 2 + b < 2 ^ suc n
     more n c b h k = omega (arith, pow-suc 2 n)
 
--- src/lib.rt:213:1
 returns : tie.Need-returns Inv-loop μ-loop
 returns c =
     let l = c .before .loop in

@@ -10,7 +10,7 @@ use mir.Facts.{toZ-ofZ}
 use lib.ListN.{length, getD}
 use lib.IntN.{ℤ, pos}
 use Rattle.laws.specs.Lists.{append-at}
-use Rattle.tetra.proofs.Decoded.{in-second, in-third}
+use Rattle.tetra.proofs.Decoding.{in-second, in-third}
 use Rattle.tetra.proofs.in_three.Statement.{statement}
 use Rattle.tetra.proofs.in_three.Tie as tie
 

@@ -1,23 +1,20 @@
+-- `tetra::marks`: the marks set so far. Assumes nothing.
 use mathlib.Core.Path.{_≡_, refl, ap, sym, _∙_}
-use mathlib.Core.List.{List, map}
 use Prim.Native.Nat.{ℕ, _+_, _*_, _-_, _≤_, _<_}
-use lib.ListN.{length, getD, take, drop, length-set}
-use lib.IntN.{ℤ, pos}
-use lib.Seq.{ext-getD}
+use native.Mathlib.Omega.{arith}
 use borrow.Author.Count.{below-none}
+use borrow.Author.Needs.{needs}
 use mir.Syntax.{w32}
 use mir.Val.{SFits}
 use mir.Facts.{toZ-ofZ}
+use lib.ListN.{length, getD, take, drop, length-set}
+use lib.IntN.{pos}
+use lib.Seq.{ext-getD}
 use Rattle.laws.specs.Lists.{filled-more}
 use Rattle.rank.specs.Answers.{markOf, marksOf}
 use Rattle.tetra.proofs.Rows.{marks-at, marks-length}
-use borrow.Author.Needs.{needs}
-use native.Mathlib.Omega.{arith}
 use Rattle.tetra.proofs.marks.Statement.{statement}
 use Rattle.tetra.proofs.marks.Tie as tie
-use Rattle.tetra.proofs.marks.Reads as reads
-use Rattle.tetra.proofs.marks.Lts as lts
-use Rattle.rank.proofs.mark.Reads as mark-reads
 
 abbrev Inv-loop : tie.InvT-loop
 Inv-loop s t rho₀ j₀ rho j =
@@ -26,47 +23,36 @@ Inv-loop s t rho₀ j₀ rho j =
 abbrev μ-loop : tie.MeasureT-loop
 μ-loop s t rho₀ j₀ rho j = 8 - j
 
--- src/lib.rt:232:5
 loop-holds : tie.Need-loop-holds Inv-loop μ-loop
 loop-holds c = (omega arith, refl, below-none _)
 
--- src/lib.rt:233:31
 mul-mark : tie.Need-mul-mark Inv-loop μ-loop
 mul-mark c = search needs
 
--- src/lib.rt:233:31
 add-mark : tie.Need-add-mark Inv-loop μ-loop
 add-mark c = search needs
 
--- src/lib.rt:233:29
 mul-mark-2 : tie.Need-mul-mark-2 Inv-loop μ-loop
 mul-mark-2 c = search needs
 
--- src/lib.rt:233:29
 array-copy-out-mark : tie.Need-array-copy-out-mark Inv-loop μ-loop
 array-copy-out-mark c = search needs
 
--- src/lib.rt:233:18
 mark-requires : tie.Need-mark-requires Inv-loop μ-loop
 mark-requires c κs = search needs
 
--- src/lib.rt:233:9
 mul-rho : tie.Need-mul-rho Inv-loop μ-loop
 mul-rho c = search needs
 
--- src/lib.rt:233:9
 array-write-rho : tie.Need-array-write-rho Inv-loop μ-loop
 array-write-rho c = search needs
 
--- src/lib.rt:234:9
 add-j : tie.Need-add-j Inv-loop μ-loop
 add-j c = search needs
 
--- src/lib.rt:232:5
 loop-less : tie.Need-loop-less Inv-loop μ-loop
 loop-less c = search needs
 
--- src/lib.rt:232:5
 loop-again : tie.Need-loop-again Inv-loop μ-loop
 loop-again c =
     let l = c .before .before .before .loop in
@@ -78,7 +64,6 @@ loop-again c =
           (c .mark .ensures .0 ∙ ap markOf (toZ-ofZ f)) (l .inv .2),
     )
 
--- src/lib.rt:226:1
 returns : tie.Need-returns Inv-loop μ-loop
 returns c =
     let l = c .before .loop in

@@ -1,23 +1,20 @@
-use mathlib.Core.Path.{_≡_, refl, ap, sym, subst, _∙_}
-use mathlib.Core.Bool.{Bool, true, false, _&&_}
-use Prim.Native.Nat.{ℕ, _+_, _-_, _≤_, _<_}
-use lib.ListN.{length, getD, drop, drop-of-length-le}
-use lib.Dec.{eqb}
-use lib.IntN.{ℤ, pos}
+-- `tetra::one_parity`: what is left of the row says what the whole row says. Assumes nothing.
+use mathlib.Core.Path.{_≡_, refl, ap, sym, _∙_}
+use mathlib.Core.Bool.{Bool, _&&_}
+use Prim.Native.Nat.{ℕ, _+_, _-_, _≤_}
+use native.Mathlib.Omega.{arith}
 use borrow.Author.Tests.{eq-eqb, ne-eqb}
+use borrow.Author.Needs.{needs}
 use mir.Syntax.{w32}
 use mir.Val.{SFits}
 use mir.Facts.{toZ-ofZ}
+use lib.ListN.{length, getD, drop}
+use lib.IntN.{pos}
 use Rattle.rank.specs.Coord.{parityOf}
 use Rattle.rank.specs.Section.{uniform}
 use Rattle.tetra.proofs.Rows.{uniform-next, uniform-end}
-use borrow.Author.Needs.{needs}
-use native.Mathlib.Omega.{arith}
 use Rattle.tetra.proofs.one_parity.Statement.{statement}
 use Rattle.tetra.proofs.one_parity.Tie as tie
-use Rattle.tetra.proofs.one_parity.Reads as reads
-use Rattle.tetra.proofs.one_parity.Lts as lts
-use Rattle.rank.proofs.parity.Reads as parity-reads
 
 abbrev Inv-loop : tie.InvT-loop
 Inv-loop p y j₀ j = (j ≤ 24) × (uniform p (drop j y) ≡ uniform p y)
@@ -25,23 +22,18 @@ Inv-loop p y j₀ j = (j ≤ 24) × (uniform p (drop j y) ≡ uniform p y)
 abbrev μ-loop : tie.MeasureT-loop
 μ-loop p y j₀ j = 24 - j
 
--- src/lib.rt:189:5
 loop-holds : tie.Need-loop-holds Inv-loop μ-loop
 loop-holds c = (omega arith, refl)
 
--- src/lib.rt:190:25
 mul-parity : tie.Need-mul-parity Inv-loop μ-loop
 mul-parity c = search needs
 
--- src/lib.rt:190:25
 array-copy-out-parity : tie.Need-array-copy-out-parity Inv-loop μ-loop
 array-copy-out-parity c = search needs
 
--- src/lib.rt:190:12
 parity-requires : tie.Need-parity-requires Inv-loop μ-loop
 parity-requires c κs = search needs
 
--- src/lib.rt:191:13
 returns : tie.Need-returns Inv-loop μ-loop
 returns c =
     let k = c .before .before .before .before in
@@ -53,15 +45,12 @@ returns c =
     ∙ ap (λ (b : Bool). b && uniform (a .p) (drop (l .j + 1) (a .t1)))
     (ne-eqb _ (a .p) (λ q. c .if1 .taken (c .before .parity .ensures .0 ∙ ap parityOf (toZ-ofZ f) ∙ q))))
 
--- src/lib.rt:193:9
 add-j : tie.Need-add-j Inv-loop μ-loop
 add-j c = search needs
 
--- src/lib.rt:189:5
 loop-less : tie.Need-loop-less Inv-loop μ-loop
 loop-less c = search needs
 
--- src/lib.rt:189:5
 loop-again : tie.Need-loop-again Inv-loop μ-loop
 loop-again c =
     let k = c .before .before .before .before in
@@ -75,7 +64,6 @@ loop-again c =
       ∙ ap (λ (b : Bool). b && uniform (a .p) (drop (l .j + 1) (a .t1))) (eq-eqb _ (a .p) q)) ∙ l .inv .1,
     )
 
--- src/lib.rt:185:1
 returns-2 : tie.Need-returns-2 Inv-loop μ-loop
 returns-2 c =
     let l = c .before .loop in

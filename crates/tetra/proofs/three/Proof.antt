@@ -12,7 +12,7 @@ use lib.ListN.{length, getD, length-set}
 use lib.IntN.{ℤ, pos}
 use lib.Seq.{ext-getD}
 use Rattle.laws.specs.Lists.{filled-more}
-use Rattle.tetra.proofs.Decoded.{three-length}
+use Rattle.tetra.proofs.Decoding.{three-length}
 use Rattle.tetra.proofs.three.Statement.{statement}
 use Rattle.tetra.proofs.three.Tie as tie
 

@@ -1,23 +1,21 @@
+-- `tetra::to_trio`: the coordinates set so far. Assumes nothing.
 use mathlib.Core.Path.{_≡_, refl, ap, sym, _∙_}
 use Prim.Native.Nat.{ℕ, _-_, _≤_, _<_}
-use lib.ListN.{length, getD, length-set}
-use lib.IntN.{ℤ, pos}
-use lib.Seq.{ext-getD}
+use native.Mathlib.Omega.{arith}
 use borrow.Author.Count.{below-none}
+use borrow.Author.Needs.{needs}
 use mir.Syntax.{w32}
 use mir.Val.{SFits}
 use mir.Facts.{toZ-ofZ}
+use lib.ListN.{length, getD, length-set}
+use lib.IntN.{ℤ, pos}
+use lib.Seq.{ext-getD}
 use Rattle.laws.specs.Lists.{filled-more}
 use Rattle.trellis.specs.TrioLaws.{trio-fits}
 use Rattle.tetra.specs.Lattice.{trio}
 use Rattle.tetra.specs.Orders.{trio-at, trio-length}
-use borrow.Author.Needs.{needs}
-use native.Mathlib.Omega.{arith}
 use Rattle.tetra.proofs.to_trio.Statement.{statement}
 use Rattle.tetra.proofs.to_trio.Tie as tie
-use Rattle.tetra.proofs.to_trio.Reads as reads
-use Rattle.tetra.proofs.to_trio.Lts as lts
-use Rattle.trellis.proofs.order.Reads as order-reads
 
 abbrev Inv-loop : tie.InvT-loop
 Inv-loop y out₀ j₀ out j =
@@ -26,39 +24,30 @@ Inv-loop y out₀ j₀ out j =
 abbrev μ-loop : tie.MeasureT-loop
 μ-loop y out₀ j₀ out j = 24 - j
 
--- src/lib.rt:204:5
 loop-holds : tie.Need-loop-holds Inv-loop μ-loop
 loop-holds c = (omega arith, refl, below-none _)
 
--- src/lib.rt:205:13
 order-requires : tie.Need-order-requires Inv-loop μ-loop
 order-requires c κs = search needs
 
--- src/lib.rt:206:18
 mul-out : tie.Need-mul-out Inv-loop μ-loop
 mul-out c = omega (arith, c .order .ensures, trio-fits (c .before .before .loop .j) (omega arith) .order-lt)
 
--- src/lib.rt:206:18
 array-copy-out-out : tie.Need-array-copy-out-out Inv-loop μ-loop
 array-copy-out-out c = omega (arith, c .order .ensures, trio-fits (c .before .before .loop .j) (omega arith) .order-lt)
 
--- src/lib.rt:206:9
 mul-out-2 : tie.Need-mul-out-2 Inv-loop μ-loop
 mul-out-2 c = search needs
 
--- src/lib.rt:206:9
 array-set-from-out : tie.Need-array-set-from-out Inv-loop μ-loop
 array-set-from-out c = search needs
 
--- src/lib.rt:207:9
 add-j : tie.Need-add-j Inv-loop μ-loop
 add-j c = search needs
 
--- src/lib.rt:204:5
 loop-less : tie.Need-loop-less Inv-loop μ-loop
 loop-less c = search needs
 
--- src/lib.rt:204:5
 loop-again : tie.Need-loop-again Inv-loop μ-loop
 loop-again c =
     let l = c .before .before .before .loop in
@@ -70,7 +59,6 @@ loop-again c =
           (toZ-ofZ f ∙ ap (λ (n : ℕ). getD y n (pos 0)) (c .before .order .ensures) ∙ sym (trio-at y (l .j) (omega arith))) (l .inv .2),
     )
 
--- src/lib.rt:199:1
 returns : tie.Need-returns Inv-loop μ-loop
 returns c =
     let l = c .before .loop in

@@ -2,7 +2,7 @@
 use mathlib.Core.Path.{_∙_}
 use native.Mathlib.Omega.{arith}
 use borrow.Author.Needs.{needs}
-use Rattle.tetra.proofs.Decoded.{laid}
+use Rattle.tetra.proofs.Decoding.{laid}
 use Rattle.tetra.proofs.trio_point.Statement.{statement}
 use Rattle.tetra.proofs.trio_point.Tie as tie
 

@@ -1,48 +1,38 @@
-use mathlib.Core.Path.{_≡_, refl, ap, sym, _∙_}
-use Prim.Native.Nat.{ℕ, _+_, _*_, _/_, _%_, _^_, _-_, _≤_, _<_}
+-- `tetra::word_by`: fields that fit are joined. Assumes nothing.
+use mathlib.Core.Path.{_≡_, ap, _∙_}
+use Prim.Native.Nat.{ℕ, _/_, _-_}
+use native.Mathlib.Omega.{arith}
+use borrow.Author.Needs.{needs}
 use lib.Bits.{and-mask, bitAnd}
-use Rattle.word.specs.Word.{Narrow, wordOf, joinOf}
+use Rattle.word.specs.Word.{joinOf}
 use Rattle.word.specs.Laws.{join-accepts}
 use Rattle.word.specs.declared.Fields.{Fields}
 use Rattle.word.specs.declared.Joined.{Joined}
 use Rattle.tetra.specs.Encode.{fieldsBy}
-use borrow.Author.Needs.{needs}
-use native.Mathlib.Omega.{arith}
 use Rattle.tetra.proofs.word_by.Statement.{statement}
 use Rattle.tetra.proofs.word_by.Tie as tie
-use Rattle.tetra.proofs.word_by.Reads as reads
-use Rattle.tetra.proofs.word_by.Lts as lts
-use Rattle.word.proofs.Fields.join.Reads as join-reads
 
--- src/lib.rt:245:12
 cast-t9 : tie.Need-cast-t9
 cast-t9 c = search needs
 
--- src/lib.rt:246:12
 cast-t10 : tie.Need-cast-t10
 cast-t10 c = search needs
 
--- src/lib.rt:247:13
 cast-t12 : tie.Need-cast-t12
 cast-t12 c = omega (arith, and-mask (c .args .x) 6)
 
--- src/lib.rt:248:13
 cast-t15 : tie.Need-cast-t15
 cast-t15 c = omega (arith, and-mask (c .args .x / 64) 1)
 
--- src/lib.rt:250:13
 cast-t18 : tie.Need-cast-t18
 cast-t18 c = omega (arith, and-mask (c .args .x / 128) 4)
 
--- src/lib.rt:252:13
 cast-t21 : tie.Need-cast-t21
 cast-t21 c = omega (arith, and-mask (c .args .x / 2048) 1)
 
--- src/lib.rt:256:9
 join-requires : tie.Need-join-requires
 join-requires c κs = search needs
 
--- src/lib.rt:240:1
 -- the label's parts, by masks
 made : (p x r i1 i2 i3 : ℕ)
     → _≡_ {A = Fields}
