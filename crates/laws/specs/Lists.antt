@@ -1,24 +1,25 @@
 -- Lists: one that a loop fills place by place, one that a loop takes apart, one after another. Assumes nothing.
 use mathlib.Core.Path.{_≡_, refl, ap, ap₂, sym, _∙_}
 use mathlib.Core.Bool.{Bool, true, false, cond}
-use mathlib.Core.List.{List, [], _∷_, _++_}
+use mathlib.Core.List.{List, [], _∷_, _++_, map}
 use mathlib.Core.List.{List, [], _∷_, _++_, List·Memᴰ, List·Memᴰ·head, List·Memᴰ·tail, List·Memᴰ·not-nil}
 use Prim.Native.Nat.{ℕ, zero, suc, _+_, _-_, _<_, _≤_, suc-le-suc}
-use native.Mathlib.Nat.{not-suc-le-zero, le-of-suc-le-suc, zero-lt-suc, add-zero, add-suc, suc-add, le-of-eq}
 use mathlib.Core.Path.{_≡_, refl, ap, ap₂, sym, subst, _∙_}
 use mathlib.Core.Bool.{Bool, true, false}
 use mathlib.Core.List.{List, [], _∷_, _++_}
 use Prim.Native.Nat.{ℕ, zero, suc, _+_, _-_, _<_, _≤_, zero-le, suc-le-suc}
 use native.Mathlib.Nat.{not-suc-le-zero, le-of-suc-le-suc, zero-lt-suc, add-zero, add-suc, suc-add}
+use native.Mathlib.Nat.{not-suc-le-zero, le-of-suc-le-suc, zero-lt-suc, add-zero, add-suc, suc-add, le-of-eq}
 use native.Mathlib.Numerals.{add-one}
 use native.Mathlib.Decide.{ℕ-discrete}
 use native.Mathlib.Omega.{arith}
 use borrow.Author.Count.{below-more}
-use borrow.Author.Tests.{eq-eqb, eqb-true, lt-ltb, le-ltb, ltb-true, ltb-false}
-use lib.Dec.{eqb, ltb}
 use borrow.Author.Tests.{eqb-true, eq-eqb}
 use lib.Dec.{eqb}
 use lib.ListN.{length, getD, set, drop, replicate}
+use borrow.Author.Tests.{eq-eqb, eqb-true, lt-ltb, le-ltb, ltb-true, ltb-false}
+use lib.Dec.{eqb, ltb}
+use lib.ListN.{length, getD, set, take, drop}
 use lib.Seq.{getD-set-same, getD-set-other, drop-cons, sets}
 
 -- f 0, f 1, .., n of them. It stays shut: at a large n it would be written out wherever it stands
@@ -220,3 +221,18 @@ stands-le x (y ∷ ys) = go (eqb y x) (stands-le x ys)
     go : (b : Bool) → standsAt x ys ≤ length ys → elim b [ true ↦ 0 | false ↦ suc (standsAt x ys) ] ≤ suc (length ys)
     go true l = zero-le
     go false l = suc-le-suc l
+-- ---- what f makes of each element
+pub map-at : (A B : Type 0) (f : A → B) (d : B) (e : A) (xs : List A) (k : ℕ) → k < length xs → getD (map f xs) k d ≡ f (getD xs k e)
+map-at A B f d e [] k h = absurd (not-suc-le-zero h)
+map-at A B f d e (x ∷ xs) zero h = refl
+map-at A B f d e (x ∷ xs) (suc k) h = map-at A B f d e xs k (le-of-suc-le-suc h)
+
+pub map-take : (A B : Type 0) (f : A → B) (n : ℕ) (xs : List A) → map f (take n xs) ≡ take n (map f xs)
+map-take A B f zero xs = refl
+map-take A B f (suc n) [] = refl
+map-take A B f (suc n) (x ∷ xs) = ap (λ (l : List B). f x ∷ l) (map-take A B f n xs)
+
+pub map-drop : (A B : Type 0) (f : A → B) (n : ℕ) (xs : List A) → map f (drop n xs) ≡ drop n (map f xs)
+map-drop A B f zero xs = refl
+map-drop A B f (suc n) [] = refl
+map-drop A B f (suc n) (x ∷ xs) = map-drop A B f n xs

@@ -1,0 +1,3 @@
+pub mod Decoding
+pub mod Rows
+pub mod Encoding

@@ -1,0 +1,24 @@
+-- `tetra::middle_row`. Assumes nothing.
+use native.Mathlib.Omega.{arith}
+use borrow.Author.Tests.{lt-ltb, le-ltb}
+use borrow.Author.Needs.{needs}
+use Rattle.rows.specs.Table.{middleRow}
+use Rattle.tetra.proofs.middle_row.Statement.{statement}
+use Rattle.tetra.proofs.middle_row.Tie as tie
+
+returns : tie.Need-returns
+unfolding middleRow
+returns c = (rw (lt-ltb _ _ (c .if1 .taken)), omega arith)
+
+cast-result : tie.Need-cast-result
+cast-result c = search needs
+
+add-result : tie.Need-add-result
+add-result c = search needs
+
+returns-2 : tie.Need-returns-2
+unfolding middleRow
+returns-2 c = (rw (le-ltb _ _ (c .if1 .left)), omega arith)
+
+pub middle-row-spec : {M : Type 1} → statement M
+middle-row-spec = tie.close (tie.spec returns cast-result add-result returns-2)

@@ -1,0 +1,76 @@
+-- The word of a point, as `encode` answers it. Demand2 shows that no other answer fits. Assumes nothing.
+use mathlib.Core.Bool.{Bool, cond, _&&_}
+use mathlib.Core.List.{List}
+use Prim.Native.Nat.{ℕ}
+use lib.Dec.{ltb, eqb}
+use lib.IntN.{ℤ, pos}
+use lib.ListN.{getD}
+use Rattle.laws.specs.Whole.{modZ}
+use Rattle.word.specs.Word.{wordOf}
+use Rattle.word.specs.declared.Fields.{Fields}
+use Rattle.rank.specs.Coord.{parityOf}
+use Rattle.rank.specs.Vector.{inMiddle}
+use Rattle.rank.specs.Section.{uniform, bitsOf, kSum}
+use Rattle.rows.specs.Table.{classIndexOf, mixedIndexOf}
+use Rattle.rows.specs.declared.Seated.{Seated}
+use Rattle.rows.specs.declared.Seated.the-variants.{At, Nothing}
+use Rattle.trellis.specs.Trellis.{labelOf, s8Of, b1Of, b2Of, b3Of}
+use Rattle.tetra.specs.Lattice.{trio, sectionRanks, inOwnClass}
+use Rattle.tetra.specs.declared.Encoded.{Encoded}
+
+-- ---- the refusal: no word decodes to the point
+abbrev pub noWord : ℕ
+noWord = 5
+
+abbrev pub refusedWith : ℕ → Encoded
+refusedWith n = record { number = n; word = 0 }
+
+abbrev pub refused : Encoded
+refused = refusedWith noWord
+
+-- ---- the four tests, in the order in which they are made
+-- the parity of the first coordinate, which is that of all
+abbrev pub parityAt : List ℤ → ℕ
+parityAt y = parityOf (getD y 0 (pos 0))
+
+unfoldable pub oneParity : List ℤ → Bool
+oneParity y = uniform (parityAt y) y
+
+-- the label of the codeword that the bits are, 4096 where they are none
+abbrev pub labelFor : List ℤ → ℕ
+labelFor y = labelOf (bitsOf (trio y))
+
+unfoldable pub inCode : List ℤ → Bool
+inCode y = ltb (labelFor y) 4096
+
+unfoldable pub inBounds : List ℤ → Bool
+inBounds y = inOwnClass (sectionRanks y 0) && (inMiddle (sectionRanks y 1) && inOwnClass (sectionRanks y 2))
+
+unfoldable pub rightSum : List ℤ → Bool
+rightSum y = eqb (modZ (kSum y) 2) (parityAt y)
+
+unfoldable pub encodable : List ℤ → Bool
+encodable y = oneParity y && (inCode y && (inBounds y && rightSum y))
+
+-- ---- the word's fields: the parity p, the label x of the codeword in parts, the class of the first section, the rows of all three, gain 0
+abbrev pub fieldsBy : ℕ → ℕ → ℕ → ℕ → ℕ → ℕ → Fields
+fieldsBy p x r i1 i2 i3 =
+    record { p = p; r = r; s8 = s8Of x; b1 = b1Of x; i1 = i1; b2 = b2Of x; i2 = i2; b3 = b3Of x; i3 = i3; gain = 0 }
+
+-- the class and the index of an answer
+abbrev pub seatClass : Seated → ℕ
+seatClass (At c i) = c
+seatClass Nothing = 0
+
+abbrev pub seatIndex : Seated → ℕ
+seatIndex (At c i) = i
+seatIndex Nothing = 0
+
+unfoldable pub fieldsFor : List ℤ → Fields
+fieldsFor y =
+    fieldsBy (parityAt y) (labelFor y) (seatClass (classIndexOf (sectionRanks y 0))) (seatIndex (classIndexOf (sectionRanks y 0)))
+    (seatIndex (mixedIndexOf (sectionRanks y 1))) (seatIndex (classIndexOf (sectionRanks y 2)))
+
+-- ---- the answer
+unfoldable pub encodeOf : List ℤ → Encoded
+encodeOf y = cond (encodable y) (record { number = 0; word = wordOf (fieldsFor y) }) refused
