@@ -1,14 +1,13 @@
 -- The order of lists of numbers, first element most significant: a comparison, and what it hands on where the two are equal. Assumes nothing.
-use mathlib.Core.Path.{_≡_, _∙_, subst, sym, refl, ap}
+use mathlib.Core.Path.{_≡_, _∙_, subst, sym, refl}
 use mathlib.Core.Logic.{_⊎_, inl, inr}
 use mathlib.Core.Bool.{Bool, true, false, not}
 use mathlib.Core.List.{List, [], _∷_}
-use Prim.Native.Nat.{ℕ, zero, suc, _+_, _<_, _≤_, compare, Ordering, Ordering·lt, Ordering·eq, Ordering·gt}
+use Prim.Native.Nat.{ℕ, _<_, _≤_, compare, Ordering, Ordering·lt, Ordering·eq, Ordering·gt}
 use native.Mathlib.Decide.{decLt}
 use native.Mathlib.Omega.{arith}
-use lib.Dec.{T, isLe, isEq, leb→le, le→leb, eqb→eq, eqb-refl}
+use lib.Dec.{T, isLe, isEq, leb→le, le→leb, eqb→eq, eqb-refl, nleb→lt}
 use Rattle.laws.specs.Tests.{Says, says-by, true-is}
-use lib.Dec.{T, isLe, isEq, leb→le, nleb→lt, le→leb, eqb→eq, eqb-refl}
 use lib.Arith.{lt-of-le-ne}
 
 -- smaller: yes; equal: as the rest says; greater: no

@@ -1,8 +1,8 @@
 -- Tables: a test that is computed over a whole list of numbers, and what it says of each entry. Assumes nothing.
-use mathlib.Core.Path.{_≡_, _∙_, subst, sym, ap}
+use mathlib.Core.Path.{_∙_, subst, sym, ap}
 use mathlib.Core.Bool.{Bool, true, false, _&&_}
 use mathlib.Core.List.{List, [], _∷_}
-use Prim.Native.Nat.{ℕ, zero, suc, _+_, _<_, _≤_}
+use Prim.Native.Nat.{ℕ, zero, suc, _+_, _<_}
 use native.Mathlib.Nat.{add-zero, zero-add, add-suc, suc-add, le-of-suc-le-suc, not-suc-le-zero, lt-trans}
 use native.Mathlib.Omega.{arith}
 use lib.Dec.{T, ltb, eqb, ltb→lt, eqb→eq}
