@@ -11,6 +11,7 @@ use Rattle.laws.specs.Lists.{tab}
 use Rattle.laws.specs.Whole.{modZ}
 use Rattle.search.specs.declared.Coord.{Coord}
 use Rattle.search.specs.Record.{coordOf, shrinks, coordAt}
+use Rattle.coord.specs.declared.Rows.{Rows}
 
 -- record i of the targets ts at parity p
 unfoldable pub coordIn : List Float → ℕ → ℕ → Coord
@@ -39,3 +40,7 @@ oddsOf e = tab (λ (i : ℕ). modZ (coordAt e i .k0) 2) 128
 -- whether the target lies above the rounding
 unfoldable pub upsOf : List Coord → List Bool
 upsOf e = tab (λ (i : ℕ). ltZ (pos 0) (coordAt e i .dir)) 128
+
+-- the six together
+unfoldable pub rowsOf : List Coord → Rows
+rowsOf e = record { regret = regretsOf e; dist = distsOf e; weight = weightsOf e; rank = ranksOf e; odd = oddsOf e; up = upsOf e }

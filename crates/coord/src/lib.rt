@@ -1,1 +1,332 @@
-// The rounding records of a section, and the same as flat rows.
+// The rounding records of a section, and the same as flat rows: `Tables::build` of the Rust's encoder.rs.
+ghost use mathlib.Core.Path.{_≡_};
+ghost use mathlib.Core.Bool.{cond};
+ghost use Prim.Native.Nat.{_<_, _≤_, _+_, _%_};
+ghost use lib.IntN.{pos, negsuc, natAbs};
+ghost use lib.ListN.{getD};
+ghost use lib.Signed.{ltZ};
+ghost use lib.Ieee.{lt, nan};
+ghost use Rattle.rank.specs.Vector as vector;
+ghost use Rattle.rank.specs.Answers.{markOf};
+ghost use Rattle.float.specs.Calls.{rounded};
+ghost use Rattle.search.specs.Record.{member, coordFrom, coordOf, shrinks};
+ghost use Rattle.coord.specs.Rows.{coordIn, tableOf, regretsOf, distsOf, weightsOf, ranksOf, oddsOf, upsOf, rowsOf};
+ghost use Rattle.coord.specs.Slots.{unbiased, slotOf};
+use search::Coord;
+
+// How far the targets are drawn in, one after the other.
+const SHRINKS: [f64; 8] = [1.0, 0.85, 0.7, 0.55, 0.4, 0.25, 0.1, 0.0];
+
+// The rank marks of o + 4k for k from -8 to 8, 17 for each o, with the members that have a rank beside them.
+const RANKS: [u8; 68] = [
+    15,
+    15,
+    15,
+    15,
+    15,
+    6, // -12
+    4, // -8
+    2, // -4
+    0, // 0
+    1, // 4
+    3, // 8
+    5, // 12
+    7, // 16
+    15,
+    15,
+    15,
+    15,
+    15,
+    15,
+    15,
+    15,
+    7, // -15
+    5, // -11
+    3, // -7
+    1, // -3
+    0, // 1
+    2, // 5
+    4, // 9
+    6, // 13
+    15,
+    15,
+    15,
+    15,
+    15,
+    15,
+    15,
+    15,
+    15,
+    7, // -14
+    5, // -10
+    3, // -6
+    1, // -2
+    0, // 2
+    2, // 6
+    4, // 10
+    6, // 14
+    15,
+    15,
+    15,
+    15,
+    15,
+    15,
+    15,
+    15,
+    15,
+    6, // -13
+    4, // -9
+    2, // -5
+    0, // -1
+    1, // 3
+    3, // 7
+    5, // 11
+    7, // 15
+    15,
+    15,
+    15,
+    15,
+    15,
+];
+
+// The member o + 4k of one k: its rank mark, its weight, its squared distance to the target.
+struct Slot {
+    rank: u8,
+    w: u16,
+    d: f64,
+}
+
+// The records of a section as flat rows.
+pub struct Rows {
+    pub regret: [f64; 128],
+    pub dist: [f64; 640],
+    pub weight: [u16; 640],
+    pub rank: [u8; 640],
+    pub odd: [u8; 128],
+    pub up: [bool; 128],
+}
+
+// ---- one slot. k is counted from -1048576 on: kk = k + 1048576.
+
+// The rank mark of o + 4k; past the table's reach there is none.
+fn rank_at(o: u32, kk: u32) -> u8
+    requires { ⌜ o < 4 ⌝ }
+    ensures { λ r. ⌜ (r ≡ markOf (member o (unbiased kk))) × (r < 16) ⌝ }
+{
+    if kk < 1048568 {
+        return 15;
+    }
+    if kk <= 1048584 {
+        return RANKS[(o * 17 + (kk - 1048568)) as usize];
+    }
+    15
+}
+
+fn weight(r: u8) -> u16
+    requires { ⌜ r < 16 ⌝ }
+    ensures { λ x. ⌜ x ≡ vector.sq r ⌝ }
+{
+    let a = 2 * (r as u16) + 1;
+    a * a
+}
+
+// o + 4k as a whole number.
+fn value(o: u32, kk: u32) -> i32
+    requires { ⌜ (o < 4) × (kk < 2097152) ⌝ }
+    ensures { λ r. ⌜ r ≡ member o (unbiased kk) ⌝ }
+{
+    ((o + 4 * kk) as i32) - 4194304
+}
+
+fn slot_of(t: f64, o: u32, kk: u32) -> Slot
+    requires { ⌜ (o < 4) × (kk < 2097152) ⌝ }
+    ensures { λ r. ⌜ r ≡ slotOf t o (unbiased kk) ⌝ }
+{
+    let rank = rank_at(o, kk);
+    let w = weight(rank);
+    let e = (value(o, kk) as f64) - t;
+    Slot { rank, w, d: e * e }
+}
+
+// ---- one record
+
+// The rounding, whose size is at most a million.
+fn rounding(z: f64) -> i32
+    ensures { λ r. ⌜ (r ≡ rounded z) × (natAbs r ≤ 1000000) ⌝ }
+{
+    float::round(z)
+}
+
+// The k of the first slot, counted from -1048576 on.
+fn first(k: i32) -> u32
+    requires { ⌜ natAbs k ≤ 1000000 ⌝ }
+    ensures { λ r. ⌜ (k ≡ unbiased (r + 2)) × (r < 2050000) ⌝ }
+{
+    (k + 1048574) as u32
+}
+
+// The side on which the target lies; an exact hit counts as below.
+fn side(z: f64, k: f64) -> i32
+    ensures { λ r. ⌜ r ≡ cond (lt k z) (pos 1) (negsuc 0) ⌝ }
+{
+    if z > k {
+        return 1;
+    }
+    -1
+}
+
+fn record_of(t: f64, o: u32, z: f64, k: i32) -> Coord
+    requires { ⌜ (o < 4) × (natAbs k ≤ 1000000) ⌝ }
+    ensures { λ r. ⌜ r ≡ coordFrom t o z k ⌝ }
+{
+    let x = k as f64;
+    let dir = side(z, x);
+    let off = float::abs(z - x);
+    let kk = first(k);
+    let a = slot_of(t, o, kk);
+    let b = slot_of(t, o, kk + 1);
+    let c = slot_of(t, o, kk + 2);
+    let d = slot_of(t, o, kk + 3);
+    let e = slot_of(t, o, kk + 4);
+    Coord {
+        k0: k,
+        dir,
+        regret: off,
+        rank: [a.rank, b.rank, c.rank, d.rank, e.rank],
+        w: [a.w, b.w, c.w, d.w, e.w],
+        d: [a.d, b.d, c.d, d.d, e.d],
+    }
+}
+
+// The record of the target t at a shrink, under the offset o modulo 4. The distances are to t itself.
+pub fn coord_of(t: f64, shrink: f64, o: u32) -> Coord
+    ensures { λ r. ⌜ r ≡ coordOf t shrink (o % 4) ⌝ }
+{
+    let low = o % 4;
+    let z = (t * shrink - (low as f64)) / 4.0;
+    let k = rounding(z);
+    record_of(t, low, float::clamp(z), k)
+}
+
+// ---- the records of a section
+
+fn shrink_at(i: usize) -> f64
+    requires { ⌜ i < 8 ⌝ }
+    ensures { λ r. ⌜ r ≡ getD shrinks i nan ⌝ }
+{
+    SHRINKS[i]
+}
+
+// Record i: shrink i / 16, coordinate i / 2 % 8, pattern bit i % 2.
+fn record_at(t: [f64; 8], p: u32, i: usize) -> Coord
+    requires { ⌜ (p < 2) × (i < 128) ⌝ }
+    ensures { λ r. ⌜ r ≡ coordIn t p i ⌝ }
+{
+    coord_of(t[(i / 2) % 8], shrink_at(i / 16), p + 2 * ((i % 2) as u32))
+}
+
+fn table(t: [f64; 8], p: u32) -> [Coord; 128]
+    requires { ⌜ p < 2 ⌝ }
+    ensures { λ r. ⌜ r ≡ tableOf t p ⌝ }
+{
+    let made = record_at(t, p, 0);
+    let mut v = [made; 128];
+    for i in 0..128usize {
+        v[i] = record_at(t, p, i);
+    }
+    v
+}
+
+// ---- the flat rows
+
+fn regrets(e: [Coord; 128]) -> [f64; 128]
+    ensures { λ r. ⌜ r ≡ regretsOf e ⌝ }
+{
+    let mut v = [0.0f64; 128];
+    for i in 0..128usize {
+        v[i] = e[i].regret;
+    }
+    v
+}
+
+fn dists(e: [Coord; 128]) -> [f64; 640]
+    ensures { λ r. ⌜ r ≡ distsOf e ⌝ }
+{
+    let mut v = [0.0f64; 640];
+    for i in 0..640usize {
+        let c = e[i / 5];
+        v[i] = c.d[i % 5];
+    }
+    v
+}
+
+fn weights(e: [Coord; 128]) -> [u16; 640]
+    ensures { λ r. ⌜ r ≡ weightsOf e ⌝ }
+{
+    let mut v = [0u16; 640];
+    for i in 0..640usize {
+        let c = e[i / 5];
+        v[i] = c.w[i % 5];
+    }
+    v
+}
+
+fn ranks(e: [Coord; 128]) -> [u8; 640]
+    ensures { λ r. ⌜ r ≡ ranksOf e ⌝ }
+{
+    let mut v = [0u8; 640];
+    for i in 0..640usize {
+        let c = e[i / 5];
+        v[i] = c.rank[i % 5];
+    }
+    v
+}
+
+fn odds(e: [Coord; 128]) -> [u8; 128]
+    ensures { λ r. ⌜ r ≡ oddsOf e ⌝ }
+{
+    let mut v = [0u8; 128];
+    for i in 0..128usize {
+        let c = e[i];
+        v[i] = rank::parity(c.k0) as u8;
+    }
+    v
+}
+
+fn above(dir: i32) -> bool
+    ensures { λ r. ⌜ r ≡ ltZ (pos 0) dir ⌝ }
+{
+    0 < dir
+}
+
+fn ups(e: [Coord; 128]) -> [bool; 128]
+    ensures { λ r. ⌜ r ≡ upsOf e ⌝ }
+{
+    let mut v = [false; 128];
+    for i in 0..128usize {
+        let c = e[i];
+        v[i] = above(c.dir);
+    }
+    v
+}
+
+// The rows of a section's eight targets at the parity p modulo 2.
+pub fn rows_of(t: [f64; 8], p: u32) -> Rows
+    ensures { λ r. ⌜ r ≡ rowsOf (tableOf t (p % 2)) ⌝ }
+{
+    let e = table(t, p % 2);
+    let regret = regrets(e);
+    let dist = dists(e);
+    let weight = weights(e);
+    let rank = ranks(e);
+    let odd = odds(e);
+    let up = ups(e);
+    Rows {
+        regret,
+        dist,
+        weight,
+        rank,
+        odd,
+        up,
+    }
+}

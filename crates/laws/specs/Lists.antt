@@ -10,7 +10,7 @@ use native.Mathlib.Omega.{arith}
 use borrow.Author.Count.{below-more}
 use borrow.Author.Tests.{eqb-true, eq-eqb, lt-ltb, le-ltb, ltb-true, ltb-false}
 use lib.Dec.{eqb, ltb}
-use lib.ListN.{length, getD, set, drop, replicate, take}
+use lib.ListN.{length, getD, set, drop, replicate, take, drop-of-length-le}
 use lib.Seq.{getD-set-same, getD-set-other, drop-cons, sets}
 
 -- f 0, f 1, .., n of them. It stays shut: at a large n it would be written out wherever it stands
@@ -212,6 +212,7 @@ stands-le x (y ∷ ys) = go (eqb y x) (stands-le x ys)
     go : (b : Bool) → standsAt x ys ≤ length ys → elim b [ true ↦ 0 | false ↦ suc (standsAt x ys) ] ≤ suc (length ys)
     go true l = zero-le
     go false l = suc-le-suc l
+
 -- ---- what f makes of each element
 pub map-at : (A B : Type 0) (f : A → B) (d : B) (e : A) (xs : List A) (k : ℕ) → k < length xs → getD (map f xs) k d ≡ f (getD xs k e)
 map-at A B f d e [] k h = absurd (not-suc-le-zero h)
@@ -227,3 +228,19 @@ pub map-drop : (A B : Type 0) (f : A → B) (n : ℕ) (xs : List A) → map f (d
 map-drop A B f zero xs = refl
 map-drop A B f (suc n) [] = refl
 map-drop A B f (suc n) (x ∷ xs) = map-drop A B f n xs
+
+-- ---- two lists that agree at every place are the same
+pub tab-eq : (A : Type 0) (d : A) (f g : ℕ → A) (n : ℕ) → ((k : ℕ) → k < n → f k ≡ g k) → tab f n ≡ tab g n
+tab-eq A d f g n h = filled A d n g (tab f n) (tab-length A f n) (λ k l. tab-at A d f n k l ∙ h k l)
+
+-- ---- stored one after another
+-- what a loop that stores a list from `at` on has left to store at j: the element at j, and what it has left at j + 1
+pub store-next : (A : Type 0) (d : A) (vs l : List A) (at j : ℕ) → j < length vs
+    → sets l (at + j) (drop j vs) ≡ sets (set l (at + j) (getD vs j d)) (at + (j + 1)) (drop (j + 1) vs)
+store-next A d vs l at j h =
+    let e : at + (j + 1) ≡ suc (at + j) = omega arith in
+    rw (drop-next A d vs j h, e)
+
+-- nothing, at the end
+pub store-end : (A : Type 0) (vs l : List A) (at j : ℕ) → length vs ≤ j → sets l (at + j) (drop j vs) ≡ l
+store-end A vs l at j h = rw (drop-of-length-le vs h)

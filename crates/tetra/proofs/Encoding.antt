@@ -48,15 +48,17 @@ marks-seat u e = go (inOwnClass (ranksOf u)) refl
 own-seat : (v : List ℕ) → length v ≡ 8 → {c i : ℕ} → classIndexOf v ≡ At c i → T (inOwnClass v) × (class v ≡ c)
 own-seat v e {c} {i} q =
     let b = class-index-back v e c i q in
-    let h : 2048 * c + i < 4096 = omega (arith, b .0, b .1) in
-    (subst (λ (u : List ℕ). T (inOwnClass u)) (b .2) (row-in (2048 * c + i) h),
-    ap class (sym (b .2)) ∙ row-class (2048 * c + i) h ∙ number-class c i (b .1))
+    let h : 2048 * c + i < 4096 = omega (arith, b .0, b .1) in (
+      subst (λ (u : List ℕ). T (inOwnClass u)) (b .2) (row-in (2048 * c + i) h),
+      ap class (sym (b .2)) ∙ row-class (2048 * c + i) h ∙ number-class c i (b .1),
+    )
 
 middle-seat : (v : List ℕ) → length v ≡ 8 → {c i : ℕ} → mixedIndexOf v ≡ At c i → T (inMiddle v) × (class v ≡ c)
 middle-seat v e {c} {i} q =
-    let b = mixed-index-back v e c i q in
-    (subst (λ (u : List ℕ). T (inMiddle u)) (b .2) (middle-row-in i (b .0)),
-    ap class (sym (b .2)) ∙ row-class (middleRow i) (middle-lt i (b .0)) ∙ middle-row-class i (b .0) ∙ b .1)
+    let b = mixed-index-back v e c i q in (
+      subst (λ (u : List ℕ). T (inMiddle u)) (b .2) (middle-row-in i (b .0)),
+      ap class (sym (b .2)) ∙ row-class (middleRow i) (middle-lt i (b .0)) ∙ middle-row-class i (b .0) ∙ b .1,
+    )
 
 -- a test that is denied
 not-not : (b : Bool) {c : Bool} → not b ≡ c → b ≡ not c

@@ -96,9 +96,10 @@ pub has-word-iff : (y : List ℤ) → HasWord y ↔ ((w : ℕ) × (pointOf w ≡
 has-word-iff y = (λ h. (encodeOf y .word, accepts y h .back), λ q. subst HasWord (q .1) (decodes (q .0)))
 
 pub refused-iff-no-word : (y : List ℤ) → length y ≡ 24 → (encodeOf y .number ≡ noWord) ↔ ((w : ℕ) → pointOf w ≡ y → ⊥)
-refused-iff-no-word y e =
-    (λ q w d. refused-iff y e .0 q (has-word-iff y .1 (w, d)),
-    λ n. refused-iff y e .1 (λ h. let q = has-word-iff y .0 h in n (q .0) (q .1)))
+refused-iff-no-word y e = (
+  λ q w d. refused-iff y e .0 q (has-word-iff y .1 (w, d)),
+  λ n. refused-iff y e .1 (λ h. let q = has-word-iff y .0 h in n (q .0) (q .1)),
+)
 
 -- what is accepted decodes back to itself
 pub accepted-back : (y : List ℤ) → length y ≡ 24 → encodeOf y .number ≡ 0 → pointOf (encodeOf y .word) ≡ y

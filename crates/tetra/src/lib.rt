@@ -15,6 +15,20 @@ ghost use Rattle.tetra.specs.Lattice.{trio};
 ghost use Rattle.tetra.specs.Tetra.{trioPoint, trioPointOf, natural, pointOf, patternsOf};
 ghost use Rattle.tetra.specs.Encode.{refused, fieldsBy, encodeOf};
 
+// The tables, read by a place, and the lookups of rank vectors: the accessors of the Rust's `Tetra`.
+pub use rows::class_index;
+pub use rows::mixed_index;
+pub use rows::row;
+pub use trellis::branch;
+pub use trellis::order;
+pub use trellis::prefix;
+pub use trellis::suffix;
+
+// Rows per class, and those of class 0 among the middle section's: those of crate rows, in the types that are wanted here.
+const CLASS_ROWS: usize = 2048;
+
+const N0_MIXED: u16 = 1240;
+
 // The bytes of a codeword: one for each section.
 pub struct Bytes {
     pub c1: u8,
@@ -91,7 +105,7 @@ fn three(a: [i32; 8], b: [i32; 8], c: [i32; 8]) -> [i32; 24]
 fn middle_class(i: u16) -> u32
     ensures { λ r. ⌜ (r ≡ middleClass i) × (r < 2) ⌝ }
 {
-    if i < rows::N0_MIXED {
+    if i < N0_MIXED {
         return 0;
     }
     1
@@ -102,10 +116,10 @@ fn middle_row(i: u16) -> usize
     requires { ⌜ i < 2048 ⌝ }
     ensures { λ r. ⌜ (r ≡ middleRow i) × (r < 4096) ⌝ }
 {
-    if i < rows::N0_MIXED {
+    if i < N0_MIXED {
         return i as usize;
     }
-    rows::CLASS_ROWS + ((i - rows::N0_MIXED) as usize)
+    CLASS_ROWS + ((i - N0_MIXED) as usize)
 }
 
 // The point of fields that fit their widths, in trio order, by the tables of the trellis.
@@ -120,9 +134,9 @@ fn trio_point(f: word::Fields) -> [i32; 24]
     let e = trellis::branch(s8, f.b2 as usize);
     let c1 = trellis::prefix(s8, f.b1 as usize);
     let c3 = trellis::suffix(e.s16 as usize, f.b3 as usize);
-    let y1 = section_at(p, c1, rows::CLASS_ROWS * (r as usize) + (f.i1 as usize));
+    let y1 = section_at(p, c1, CLASS_ROWS * (r as usize) + (f.i1 as usize));
     let y2 = section_at(p, e.byte, middle_row(f.i2));
-    let y3 = section_at(p, c3, rows::CLASS_ROWS * (r3 as usize) + (f.i3 as usize));
+    let y3 = section_at(p, c3, CLASS_ROWS * (r3 as usize) + (f.i3 as usize));
     three(y1, y2, y3)
 }
 
@@ -271,20 +285,30 @@ pub fn encode(point: [i32; 24]) -> Encoded
     if 4096 <= x {
         return refused();
     }
-    let rows::Seated::At { class: r, index: i1 } = rows::class_index(marks(t, 0)) else {
+    let rows::Seated::At {
+        class: r,
+        index: i1,
+    } = rows::class_index(marks(t, 0))
+    else {
         return refused();
     };
-    let rows::Seated::At { class: d, index: i2 } = rows::mixed_index(marks(t, 1)) else {
+    let rows::Seated::At {
+        class: d,
+        index: i2,
+    } = rows::mixed_index(marks(t, 1))
+    else {
         return refused();
     };
-    let rows::Seated::At { class: r3, index: i3 } = rows::class_index(marks(t, 2)) else {
+    let rows::Seated::At {
+        class: r3,
+        index: i3,
+    } = rows::class_index(marks(t, 2))
+    else {
         return refused();
     };
     if r3 != (p + r + d) % 2 {
         return refused();
     }
-    Encoded {
-        number: 0,
-        word: word_by(p, x, r, i1, i2, i3),
-    }
+    let word = word_by(p, x, r, i1, i2, i3);
+    Encoded { number: 0, word }
 }

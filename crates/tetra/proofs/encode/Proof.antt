@@ -125,7 +125,7 @@ refused-requires-2 c κs = search needs
 returns-2 : tie.Need-returns-2
 returns-2 c =
     let l = c .before .before in
-    c .refused2 .ensures ∙ no-code (point l) (size (start l)) (label-at l) (c .before .if2 .taken)
+    c .refused2 .ensures ∙ no-code (point l) (size (start l)) (label-at l) (omega (arith, c .before .if2 .taken))
 
 marks-requires : tie.Need-marks-requires
 marks-requires c κs = search needs
@@ -207,17 +207,17 @@ returns-6 : tie.Need-returns-6
 returns-6 c =
     let k = c .before .before in
     c .refused6 .ensures
-    ∙ no-sum (point (l k)) (size (start (l k))) (parity-is k) (found0 k) (found1 k) (found2 k) (c .before .if3 .taken)
+    ∙ no-sum (point (l k)) (size (start (l k))) (parity-is k) (found0 k) (found1 k) (found2 k) (λ e. omega (arith, c .before .if3 .taken))
 
 word-by-requires : tie.Need-word-by-requires
 word-by-requires c κs =
     let k = c .before in
-    read-narrow (point (l k)) (size (start (l k))) (parity-is k) (found0 k) (found1 k) (found2 k) (ordered (l k) .before .before .one-parity .ensures) (ordered (l k) .before .if1 .left) (label-at (l k)) (k1 k .before .before .if2 .left) (c .if3 .left)
+    read-narrow (point (l k)) (size (start (l k))) (parity-is k) (found0 k) (found1 k) (found2 k) (ordered (l k) .before .before .one-parity .ensures) (ordered (l k) .before .if1 .left) (label-at (l k)) (k1 k .before .before .if2 .left) (omega (arith, c .if3 .left))
 
 returns-7 : tie.Need-returns-7
 returns-7 c =
     let k = c .before .before in
-    read-word (point (l k)) (size (start (l k))) (parity-is k) (found0 k) (found1 k) (found2 k) (ordered (l k) .before .before .one-parity .ensures) (ordered (l k) .before .if1 .left) (label-at (l k)) (k1 k .before .before .if2 .left) (c .before .if3 .left) (c .word-by .ensures)
+    read-word (point (l k)) (size (start (l k))) (parity-is k) (found0 k) (found1 k) (found2 k) (ordered (l k) .before .before .one-parity .ensures) (ordered (l k) .before .if1 .left) (label-at (l k)) (k1 k .before .before .if2 .left) (omega (arith, c .before .if3 .left)) (c .word-by .ensures)
 
 pub encode-spec : {M : Type 1} → statement M
 encode-spec =

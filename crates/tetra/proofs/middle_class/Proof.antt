@@ -7,11 +7,11 @@ use Rattle.tetra.proofs.middle_class.Tie as tie
 
 returns : tie.Need-returns
 unfolding middleClass
-returns c = (rw (lt-ltb _ _ (c .if1 .taken)), omega arith)
+returns c = (rw (lt-ltb (c .before .args .i) 1240 (omega arith)), omega arith)
 
 returns-2 : tie.Need-returns-2
 unfolding middleClass
-returns-2 c = (rw (le-ltb _ _ (c .if1 .left)), omega arith)
+returns-2 c = (rw (le-ltb (c .before .args .i) 1240 (omega arith)), omega arith)
 
 pub middle-class-spec : {M : Type 1} → statement M
 middle-class-spec = tie.close (tie.spec returns returns-2)

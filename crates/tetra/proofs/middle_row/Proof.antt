@@ -8,7 +8,7 @@ use Rattle.tetra.proofs.middle_row.Tie as tie
 
 returns : tie.Need-returns
 unfolding middleRow
-returns c = (rw (lt-ltb _ _ (c .if1 .taken)), omega arith)
+returns c = (rw (lt-ltb (c .before .args .i) 1240 (omega arith)), omega arith)
 
 cast-result : tie.Need-cast-result
 cast-result c = search needs
@@ -18,7 +18,7 @@ add-result c = search needs
 
 returns-2 : tie.Need-returns-2
 unfolding middleRow
-returns-2 c = (rw (le-ltb _ _ (c .if1 .left)), omega arith)
+returns-2 c = (rw (le-ltb (c .before .args .i) 1240 (omega arith)), omega arith)
 
 pub middle-row-spec : {M : Type 1} → statement M
 middle-row-spec = tie.close (tie.spec returns cast-result add-result returns-2)

@@ -61,7 +61,7 @@ loop-again c =
     let q : parityOf (getD (a .t1) (l .j) (pos 0)) ≡ a .p = sym (c .before .parity .ensures .0 ∙ ap parityOf (toZ-ofZ f)) ∙ c .if1 .left in (
       omega arith,
       sym (uniform-next (a .t1) (a .p) (l .j) (omega arith)
-      ∙ ap (λ (b : Bool). b && uniform (a .p) (drop (l .j + 1) (a .t1))) (eq-eqb _ (a .p) q)) ∙ l .inv .1,
+          ∙ ap (λ (b : Bool). b && uniform (a .p) (drop (l .j + 1) (a .t1))) (eq-eqb _ (a .p) q)) ∙ l .inv .1,
     )
 
 returns-2 : tie.Need-returns-2 Inv-loop μ-loop

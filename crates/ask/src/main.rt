@@ -1,0 +1,183 @@
+// Answers each request line of standard input with one line on standard output.
+//
+//   decode W          W: 1 to 16 hex digits, either case                 -> point=c0,..,c23
+//   point C0 .. C23   C: an i32, decimal digits with a - or no sign      -> word=W12, or refused=5
+//
+// The words of a line stand one space apart, and its end is an LF, which the last line may lack. A line that is no
+// request, and one of 1,024 bytes or more, is answered by refused=9.
+mod parse;
+mod text;
+
+use libc::STDIN_FILENO;
+use libc::STDOUT_FILENO;
+use parse::Number;
+use text::put;
+use text::put_decimal;
+use text::put_hex;
+use text::put_point;
+use text::put_text;
+
+// ---- answers. Each puts a line into out from `to` on, and answers the place after it.
+
+fn refused(out: &mut [u8], to: usize, number: u32) -> usize {
+    let value = put_text(out, to, b"refused=");
+    let end = put_decimal(out, value, number as u64);
+    put(out, end, b'\n')
+}
+
+// The point of the word that stands at `at`.
+fn decode(s: &[u8], at: usize, out: &mut [u8], to: usize) -> usize {
+    let Number::Read(word, next) = parse::read_hex(s, at) else {
+        return refused(out, to, 9);
+    };
+    if next != s.len() {
+        return refused(out, to, 9);
+    }
+    let value = put_text(out, to, b"point=");
+    let end = put_point(out, value, tetra::decode(word));
+    put(out, end, b'\n')
+}
+
+fn encode(y: [i32; 24], out: &mut [u8], to: usize) -> usize {
+    let e = tetra::encode(y);
+    if e.number != 0 {
+        return refused(out, to, e.number);
+    }
+    let value = put_text(out, to, b"word=");
+    let end = put_hex(out, value, e.word, 12);
+    put(out, end, b'\n')
+}
+
+// The word of the point that stands at `at`.
+fn point(s: &[u8], at: usize, out: &mut [u8], to: usize) -> usize {
+    let p = parse::read_point(s, at);
+    if !p.good {
+        return refused(out, to, 9);
+    }
+    if p.next != s.len() {
+        return refused(out, to, 9);
+    }
+    let y = p.y;
+    encode(y, out, to)
+}
+
+fn answer(s: &[u8], out: &mut [u8], to: usize) -> usize {
+    let at = parse::name_end(s);
+    if parse::is_name(s, at, b"decode") {
+        return decode(s, at, out, to);
+    }
+    if parse::is_name(s, at, b"point") {
+        return point(s, at, out, to);
+    }
+    refused(out, to, 9)
+}
+
+// ---- the stream
+
+// What is held from byte to byte: so many bytes of a line, and so many of answers.
+struct Held {
+    line: usize,
+    out: usize,
+}
+
+// How a read went: whether to go on, and how many bytes of a line are held.
+struct Turn {
+    more: bool,
+    line: usize,
+}
+
+// Answers are written once so many bytes of them are held: no answer is longer than what is left of the buffer.
+const FULL: usize = 64512;
+
+fn write_out(out: &[u8], n: usize) -> bool {
+    if n <= out.len() {
+        return io::write_all(STDOUT_FILENO, &out[0..n]);
+    }
+    false
+}
+
+// The place of the next answer.
+fn make_room(out: &[u8], n: usize) -> usize {
+    if n < FULL {
+        return n;
+    }
+    write_out(out, n);
+    0
+}
+
+// Answers the line of which n bytes are held. Where they fill the buffer the line was too long.
+fn end_line(line: &[u8], n: usize, out: &mut [u8], to: usize) -> usize {
+    let to = make_room(out, to);
+    if n < line.len() {
+        return answer(&line[0..n], out, to);
+    }
+    refused(out, to, 9)
+}
+
+fn take(b: u8, line: &mut [u8], out: &mut [u8], held: Held) -> Held {
+    if b == b'\n' {
+        return Held {
+            line: 0,
+            out: end_line(line, held.line, out, held.out),
+        };
+    }
+    Held {
+        line: put(line, held.line, b),
+        out: held.out,
+    }
+}
+
+// Takes bytes of the input, of whose first line n bytes are held, and writes the answers to the lines that end in them.
+fn take_all(bytes: &[u8], line: &mut [u8], out: &mut [u8], n: usize) -> Turn {
+    let mut held = Held { line: n, out: 0 };
+    let mut i = 0;
+    while i < bytes.len() {
+        held = take(bytes[i], line, out, held);
+        i += 1;
+    }
+    Turn {
+        more: write_out(out, held.out),
+        line: held.line,
+    }
+}
+
+// Reads once. A read that fails is taken for the end.
+fn read_some(line: &mut [u8], out: &mut [u8], n: usize) -> Turn {
+    let mut bytes = io::large_buffer();
+    let got = libc::read(STDIN_FILENO, &mut bytes);
+    if got <= 0 {
+        return Turn {
+            more: false,
+            line: n,
+        };
+    }
+    let count = io::count(got, &bytes);
+    take_all(&bytes[..count], line, out, n)
+}
+
+// Reads to the end, and answers how many bytes of a line are held there. A proved loop has to end, and nothing says that
+// the input does: so the turns are counted down, from a number that no run uses up.
+fn answer_all(line: &mut [u8], out: &mut [u8]) -> usize {
+    let mut turns = u64::MAX;
+    let mut n = 0;
+    while turns > 0 {
+        let t = read_some(line, out, n);
+        n = t.line;
+        if !t.more {
+            return n;
+        }
+        turns -= 1;
+    }
+    n
+}
+
+// A last line with no LF is answered too.
+fn main() {
+    let mut line = [0u8; 1024];
+    let mut out = io::large_buffer();
+    let n = answer_all(&mut line, &mut out);
+    if n > 0 {
+        let end = end_line(&line, n, &mut out, 0);
+        write_out(&out, end);
+    }
+}

@@ -1,0 +1,220 @@
+// Reading a request line. A place is an index into it. An argument is one space and a word: its reader starts at the
+// space, and answers the value with the place after the word.
+
+// A number and the place after it, or that none stands there.
+pub(crate) enum Number {
+    Read(u64, usize),
+    Bad,
+}
+
+pub(crate) enum Signed {
+    Read(i32, usize),
+    Bad,
+}
+
+// 24 coordinates and the place after them; good says whether they stand there.
+pub(crate) struct Point {
+    pub good: bool,
+    pub next: usize,
+    pub y: [i32; 24],
+}
+
+// What some digits stand for, or that they stand for nothing.
+enum Digits {
+    Value(u64),
+    Bad,
+}
+
+// The end of the line's first word, which names the request.
+pub(crate) fn name_end(s: &[u8]) -> usize {
+    let mut i = 0;
+    while i < s.len() {
+        if s[i] == b' ' {
+            return i;
+        }
+        i += 1;
+    }
+    i
+}
+
+// Whether the first n bytes are the name.
+pub(crate) fn is_name(s: &[u8], n: usize, name: &[u8]) -> bool {
+    if n != name.len() {
+        return false;
+    }
+    let mut i = 0;
+    while i < n {
+        if s.len() <= i {
+            return false;
+        }
+        if s[i] != name[i] {
+            return false;
+        }
+        i += 1;
+    }
+    true
+}
+
+// The place after the byte b where that stands at `at`; else `at`.
+fn after(s: &[u8], at: usize, b: u8) -> usize {
+    if at < s.len() {
+        if s[at] == b {
+            return at + 1;
+        }
+    }
+    at
+}
+
+// The number v of the digits from `first` to `end`, of which there are 1 to `most`.
+fn counted(v: u64, first: usize, end: usize, most: usize) -> Number {
+    if end <= first {
+        return Number::Bad;
+    }
+    if end - first > most {
+        return Number::Bad;
+    }
+    Number::Read(v, end)
+}
+
+// ---- hex digits
+
+fn hex_digit(b: u8) -> Digits {
+    if b < b'0' {
+        return Digits::Bad;
+    }
+    if b <= b'9' {
+        return Digits::Value((b - b'0') as u64);
+    }
+    if b < b'A' {
+        return Digits::Bad;
+    }
+    if b <= b'F' {
+        return Digits::Value((b - b'A' + 10) as u64);
+    }
+    if b < b'a' {
+        return Digits::Bad;
+    }
+    if b <= b'f' {
+        return Digits::Value((b - b'a' + 10) as u64);
+    }
+    Digits::Bad
+}
+
+fn hex_from(s: &[u8], first: usize) -> Number {
+    let mut v: u64 = 0;
+    let mut i = first;
+    while i < s.len() {
+        if s[i] == b' ' {
+            return counted(v, first, i, 16);
+        }
+        let Digits::Value(d) = hex_digit(s[i]) else {
+            return Number::Bad;
+        };
+        v = (v << 4) | d;
+        i += 1;
+    }
+    counted(v, first, i, 16)
+}
+
+// 1 to 16 hex digits.
+pub(crate) fn read_hex(s: &[u8], at: usize) -> Number {
+    let first = after(s, at, b' ');
+    if first == at {
+        return Number::Bad;
+    }
+    hex_from(s, first)
+}
+
+// ---- decimal digits
+
+// v with one digit more, where that fits.
+fn more(v: u64, b: u8) -> Digits {
+    if b < b'0' {
+        return Digits::Bad;
+    }
+    if b > b'9' {
+        return Digits::Bad;
+    }
+    if v > u64::MAX / 10 {
+        return Digits::Bad;
+    }
+    let d = (b - b'0') as u64;
+    let tens = v * 10;
+    if d > u64::MAX - tens {
+        return Digits::Bad;
+    }
+    Digits::Value(tens + d)
+}
+
+fn decimal_from(s: &[u8], first: usize) -> Number {
+    let mut v: u64 = 0;
+    let mut i = first;
+    while i < s.len() {
+        if s[i] == b' ' {
+            return counted(v, first, i, s.len());
+        }
+        let Digits::Value(w) = more(v, s[i]) else {
+            return Number::Bad;
+        };
+        v = w;
+        i += 1;
+    }
+    counted(v, first, i, s.len())
+}
+
+// -n, which is !(n - 1).
+fn minus(n: u64, next: usize) -> Signed {
+    if n == 0 {
+        return Signed::Read(0, next);
+    }
+    if n > 2147483648 {
+        return Signed::Bad;
+    }
+    Signed::Read(!((n - 1) as i32), next)
+}
+
+fn plus(n: u64, next: usize) -> Signed {
+    if n > 2147483647 {
+        return Signed::Bad;
+    }
+    Signed::Read(n as i32, next)
+}
+
+// One or more decimal digits, - before them or not.
+pub(crate) fn read_signed(s: &[u8], at: usize) -> Signed {
+    let first = after(s, at, b' ');
+    if first == at {
+        return Signed::Bad;
+    }
+    let digits = after(s, first, b'-');
+    let Number::Read(n, next) = decimal_from(s, digits) else {
+        return Signed::Bad;
+    };
+    if digits == first {
+        return plus(n, next);
+    }
+    minus(n, next)
+}
+
+pub(crate) fn read_point(s: &[u8], at: usize) -> Point {
+    let mut y = [0i32; 24];
+    let mut next = at;
+    let mut j = 0;
+    while j < 24 {
+        let Signed::Read(v, after) = read_signed(s, next) else {
+            return Point {
+                good: false,
+                next,
+                y,
+            };
+        };
+        y[j] = v;
+        next = after;
+        j += 1;
+    }
+    Point {
+        good: true,
+        next,
+        y,
+    }
+}

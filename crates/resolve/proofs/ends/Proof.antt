@@ -1,0 +1,108 @@
+-- `resolve::ends` meets its contract. The invariant: the first i entries are made. Assumes nothing.
+use borrow.Author.Needs.{needs}
+use native.Mathlib.Omega.{arith}
+use Prim.Native.Nat.{ℕ, _≤_, _<_, _+_, _-_, _*_, _%_}
+use mathlib.Core.Path.{_≡_}
+use lib.ListN.{length, getD, length-set}
+use borrow.Author.Count.{below-none}
+use Rattle.laws.specs.Lists.{filled, filled-more}
+use Rattle.search.specs.declared.Entry.{Entry}
+use Rattle.search.specs.Join.{entAt, noEntry}
+use Rattle.resolve.specs.Flat.{startWith}
+use Rattle.resolve.proofs.Answers.{of-bases}
+use Rattle.resolve.proofs.ends.Statement.{statement}
+use Rattle.resolve.proofs.ends.Tie as tie
+
+abbrev Inv-loop : tie.InvT-loop
+Inv-loop bytes pairs fall out₀ i₀ out i = (i ≤ 128) × ((length out ≡ 128) × ((k : ℕ) → k < i → entAt out k ≡ startWith pairs bytes fall k))
+
+abbrev μ-loop : tie.MeasureT-loop
+μ-loop bytes pairs fall out₀ i₀ out i = 128 - i
+
+infeasible-requires : tie.Need-infeasible-requires Inv-loop μ-loop
+infeasible-requires c κs = search needs
+
+loop-holds : tie.Need-loop-holds Inv-loop μ-loop
+loop-holds c = (omega arith, (search needs, below-none _))
+
+mul-f : tie.Need-mul-f Inv-loop μ-loop
+mul-f c = search needs
+
+array-copy-out-f : tie.Need-array-copy-out-f Inv-loop μ-loop
+array-copy-out-f c = search needs
+
+mul-q0 : tie.Need-mul-q0 Inv-loop μ-loop
+mul-q0 c = search needs
+
+mul-q0-2 : tie.Need-mul-q0-2 Inv-loop μ-loop
+mul-q0-2 c = search needs
+
+array-copy-out-q0 : tie.Need-array-copy-out-q0 Inv-loop μ-loop
+array-copy-out-q0 c = search needs
+
+mul-q1 : tie.Need-mul-q1 Inv-loop μ-loop
+mul-q1 c = search needs
+
+add-q1 : tie.Need-add-q1 Inv-loop μ-loop
+add-q1 c = search needs
+
+mul-q1-2 : tie.Need-mul-q1-2 Inv-loop μ-loop
+mul-q1-2 c = search needs
+
+array-copy-out-q1 : tie.Need-array-copy-out-q1 Inv-loop μ-loop
+array-copy-out-q1 c = search needs
+
+of-parity-requires : tie.Need-of-parity-requires Inv-loop μ-loop
+of-parity-requires c κs = search needs
+
+of-parity-requires-2 : tie.Need-of-parity-requires-2 Inv-loop μ-loop
+of-parity-requires-2 c κs = search needs
+
+mul-end-start : tie.Need-mul-end-start Inv-loop μ-loop
+mul-end-start c = search needs
+
+element-copy-out-end-start : tie.Need-element-copy-out-end-start Inv-loop μ-loop
+element-copy-out-end-start c = search needs
+
+mul-end-start-2 : tie.Need-mul-end-start-2 Inv-loop μ-loop
+mul-end-start-2 c = search needs
+
+add-end-start : tie.Need-add-end-start Inv-loop μ-loop
+add-end-start c = search needs
+
+element-copy-out-end-start-2 : tie.Need-element-copy-out-end-start-2 Inv-loop μ-loop
+element-copy-out-end-start-2 c = search needs
+
+end-start-requires : tie.Need-end-start-requires Inv-loop μ-loop
+end-start-requires c κs = search needs
+
+mul-out : tie.Need-mul-out Inv-loop μ-loop
+mul-out c = search needs
+
+array-set-from-out : tie.Need-array-set-from-out Inv-loop μ-loop
+array-set-from-out c = search needs
+
+add-i : tie.Need-add-i Inv-loop μ-loop
+add-i c = search needs
+
+loop-less : tie.Need-loop-less Inv-loop μ-loop
+loop-less c = search needs
+
+loop-again : tie.Need-loop-again Inv-loop μ-loop
+loop-again c = let l = c .before .before .before .before .before .before .before .before .before .loop in
+    let s = c .before .before .before .before .before .before .before .before .before .before .before .args in (
+      omega arith,
+      (
+        simp length-set (l .inv .1 .0),
+        filled-more Entry noEntry (λ (k : ℕ). startWith (s .t1) (s .bytes .now) (s .t3) k) (l .out) (l .i) _ (omega arith) (of-bases (entAt (s .t3) (l .i)) (getD (s .bytes .now) (2 * (l .i % 64)) 0) (getD (s .bytes .now) (2 * (l .i % 64) + 1) 0) (c .before .before .before .before .of-parity .ensures) (c .before .before .before .of-parity2 .ensures) (c .end-start .ensures)) (l .inv .1 .1),
+      ),
+    )
+
+returns : tie.Need-returns Inv-loop μ-loop
+returns c = let l = c .before .loop in
+    let s = c .before .before .before .args in
+    let e : l .i ≡ 128 = omega arith in
+    filled Entry noEntry 128 (λ (k : ℕ). startWith (s .t1) (s .bytes .now) (s .t3) k) (l .out) (l .inv .1 .0) (rw e at (l .inv .1 .1))
+
+pub ends-spec : {M : Type 1} → statement M
+ends-spec = tie.close (tie.spec Inv-loop μ-loop infeasible-requires loop-holds mul-f array-copy-out-f mul-q0 mul-q0-2 array-copy-out-q0 mul-q1 add-q1 mul-q1-2 array-copy-out-q1 of-parity-requires of-parity-requires-2 mul-end-start element-copy-out-end-start mul-end-start-2 add-end-start element-copy-out-end-start-2 end-start-requires mul-out array-set-from-out add-i loop-less loop-again returns)

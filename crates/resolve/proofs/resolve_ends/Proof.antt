@@ -1,0 +1,97 @@
+-- `resolve::resolve_ends` meets its contract. The invariant: the first i entries are made. Assumes nothing.
+use borrow.Author.Needs.{needs}
+use native.Mathlib.Omega.{arith}
+use Prim.Native.Nat.{ℕ, _≤_, _<_, _-_}
+use mathlib.Core.Path.{_≡_}
+use lib.ListN.{length, getD, length-set}
+use borrow.Author.Count.{below-none}
+use Rattle.laws.specs.Lists.{filled, filled-more}
+use Rattle.search.specs.declared.Entry.{Entry}
+use Rattle.search.specs.Join.{entAt, noEntry}
+use lib.Ieee.{lt, nan}
+use Rattle.solve.specs.Flat.{solveIn}
+use Rattle.search.specs.Tables.{tables}
+use Rattle.search.specs.Parity.{closed}
+use Rattle.resolve.specs.Flat.{endWith}
+use Rattle.resolve.proofs.resolve_ends.Statement.{statement}
+use Rattle.resolve.proofs.resolve_ends.Tie as tie
+
+abbrev Inv-loop : tie.InvT-loop
+Inv-loop regret dist weight rank odd up bytes u n fall e b out₀ i₀ out i = (i ≤ 128) × ((length out ≡ 128) × ((k : ℕ) → k < i → entAt out k ≡ closed (entAt e k) (lt (getD b k nan) u) (endWith tables (solveIn regret dist weight rank odd up) bytes fall n k)))
+
+abbrev μ-loop : tie.MeasureT-loop
+μ-loop regret dist weight rank odd up bytes u n fall e b out₀ i₀ out i = 128 - i
+
+infeasible-requires : tie.Need-infeasible-requires Inv-loop μ-loop
+infeasible-requires c κs = search needs
+
+loop-holds : tie.Need-loop-holds Inv-loop μ-loop
+loop-holds c = (omega arith, (search needs, below-none _))
+
+mul-first : tie.Need-mul-first Inv-loop μ-loop
+mul-first c = search needs
+
+array-copy-out-first : tie.Need-array-copy-out-first Inv-loop μ-loop
+array-copy-out-first c = search needs
+
+mul-x : tie.Need-mul-x Inv-loop μ-loop
+mul-x c = search needs
+
+array-copy-out-x : tie.Need-array-copy-out-x Inv-loop μ-loop
+array-copy-out-x c = search needs
+
+mul-c0 : tie.Need-mul-c0 Inv-loop μ-loop
+mul-c0 c = search needs
+
+element-copy-out-c0 : tie.Need-element-copy-out-c0 Inv-loop μ-loop
+element-copy-out-c0 c = search needs
+
+mul-c1 : tie.Need-mul-c1 Inv-loop μ-loop
+mul-c1 c = search needs
+
+add-c1 : tie.Need-add-c1 Inv-loop μ-loop
+add-c1 c = search needs
+
+element-copy-out-c1 : tie.Need-element-copy-out-c1 Inv-loop μ-loop
+element-copy-out-c1 c = search needs
+
+mul-end-closed : tie.Need-mul-end-closed Inv-loop μ-loop
+mul-end-closed c = search needs
+
+array-read-end-closed : tie.Need-array-read-end-closed Inv-loop μ-loop
+array-read-end-closed c = search needs
+
+end-closed-requires : tie.Need-end-closed-requires Inv-loop μ-loop
+end-closed-requires c κs = search needs
+
+mul-out : tie.Need-mul-out Inv-loop μ-loop
+mul-out c = search needs
+
+array-set-from-out : tie.Need-array-set-from-out Inv-loop μ-loop
+array-set-from-out c = search needs
+
+add-i : tie.Need-add-i Inv-loop μ-loop
+add-i c = search needs
+
+loop-less : tie.Need-loop-less Inv-loop μ-loop
+loop-less c = search needs
+
+loop-again : tie.Need-loop-again Inv-loop μ-loop
+unfolding endWith
+loop-again c = let l = c .before .before .before .before .before .before .loop in
+    let s = c .before .before .before .before .before .before .before .before .args in (
+      omega arith,
+      (
+        simp length-set (l .inv .1 .0),
+        filled-more Entry noEntry (λ (k : ℕ). closed (entAt (s .t9) k) (lt (getD (s .t10) k nan) (s .u)) (endWith tables (solveIn (s .regret .now) (s .dist .now) (s .weight .now) (s .rank .now) (s .odd .now) (s .up .now)) (s .bytes .now) (s .t8) (s .n) k)) (l .out) (l .i) _ (omega arith) (c .end-closed .ensures) (l .inv .1 .1),
+      ),
+    )
+
+returns : tie.Need-returns Inv-loop μ-loop
+returns c = let l = c .before .loop in
+    let s = c .before .before .before .args in
+    let e : l .i ≡ 128 = omega arith in
+    filled Entry noEntry 128 (λ (k : ℕ). closed (entAt (s .t9) k) (lt (getD (s .t10) k nan) (s .u)) (endWith tables (solveIn (s .regret .now) (s .dist .now) (s .weight .now) (s .rank .now) (s .odd .now) (s .up .now)) (s .bytes .now) (s .t8) (s .n) k)) (l .out) (l .inv .1 .0) (rw e at (l .inv .1 .1))
+
+pub resolve-ends-spec : {M : Type 1} → statement M
+resolve-ends-spec = tie.close (tie.spec Inv-loop μ-loop infeasible-requires loop-holds mul-first array-copy-out-first mul-x array-copy-out-x mul-c0 element-copy-out-c0 mul-c1 add-c1 element-copy-out-c1 mul-end-closed array-read-end-closed end-closed-requires mul-out array-set-from-out add-i loop-less loop-again returns)
