@@ -6,3 +6,4 @@ pub mod Tables
 pub mod Entries
 pub mod Join
 pub mod Parity
+pub mod TableLaws
