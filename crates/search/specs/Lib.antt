@@ -6,4 +6,5 @@ pub mod Tables
 pub mod Entries
 pub mod Join
 pub mod Parity
+pub mod Block
 pub mod TableLaws
