@@ -1,7 +1,10 @@
 -- the statement, the theorem, and that its premises can be met
 pub mod Statement
-pub mod Nearest
-pub mod Origin
+pub mod Demand3
+pub mod Accepted
+pub mod OnPoint
+pub mod Natural
+pub mod Link
 -- the proof: sums and signed numbers; one coordinate; the base of a pattern; doubles
 pub mod Sums
 pub mod Ints
