@@ -8,12 +8,11 @@ use Prim.Native.Nat.{ℕ, zero, suc, _+_, _*_, _/_, _%_, _^_, _≤_, _<_, suc-le
 use native.Mathlib.Nat.{mod-lt, zero-lt-suc, zero-add, not-suc-le-zero, le-of-suc-le-suc, zero-mul, one-mul}
 use native.Mathlib.Omega.{arith}
 use lib.Dec.{T, ltb, eqb, leb, lt→ltb, le→leb, lit≤}
-use lib.ListN.{getD, length, take, drop, length-map}
+use lib.ListN.{getD, length, drop, length-map}
 use lib.Seq.{getD-take, getD-drop}
 use lib.IntN.{ℤ, pos}
 use lib.Pow.{shr-shr, pow-add}
 use Rattle.laws.specs.Tests.{is-true, or-left, or-right, and-in, eq→eqb}
-use Rattle.laws.specs.Lists.{map-at}
 use Rattle.laws.specs.Order.{lexLe, pick3-out}
 use Rattle.laws.specs.Whole.{modZ, divZ, mod2-lt, mod4-lt, parity-add}
 use Rattle.laws.specs.Bits.{weight}
@@ -38,7 +37,7 @@ use Rattle.search.specs.Record.{bitAt, member}
 use Rattle.search.specs.Bound.{lexNum, lexOf, holds}
 use Rattle.search.specs.Tables.{tables, classOf}
 use Rattle.search.specs.TableLaws.{class0-is, class1-is, mixed-is}
-use Rattle.search.specs.Entries.{rankAt, sectionAt}
+use Rattle.search.specs.Entries.{rankAt}
 use Rattle.search.specs.Block.{coordinate, place}
 use Rattle.nearest.specs.Statement.{sumTo, parK, at24, Leech, RowOf, HasWord}
 use Rattle.nearest.specs.Sums.{sum-same, sum-front}
@@ -413,7 +412,8 @@ module _ (z : List ℤ) (L : Leech z) where
               label = L .x;
               made =
                   sym
-                  (bits-from (trio z) (wordOf columns (L .x)) (subst (λ (n : ℕ). wordOf columns (L .x) < 2 ^ n) (sym (trio-length z)) (word-lt (L .x)))
+                  (bits-from (trio z) (wordOf columns (L .x))
+                  (subst (λ (n : ℕ). wordOf columns (L .x) < 2 ^ n) (sym (trio-length z)) (word-lt (L .x)))
                   (λ j h. ap bitOf (trio-at z j (at-trio j h)) ∙ bit-of j (at-trio j h)));
             };
         sum-of-k =

@@ -2,9 +2,9 @@
 use mathlib.Core.Path.{_≡_, refl, sym, ap, ap₂, _∙_, subst}
 use mathlib.Core.Logic.{_≢_}
 use mathlib.Core.Bool.{true}
-use mathlib.Core.List.{List, [], _∷_, List·Memᴰ, List·Memᴰ·head, List·Memᴰ·tail, List·Memᴰ·not-nil}
-use Prim.Native.Nat.{ℕ, zero, suc, _+_, _*_, _/_, _%_, _<_}
-use native.Mathlib.Nat.{mod-lt, zero-lt-suc, le-refl}
+use mathlib.Core.List.{List, [], _∷_, List·Memᴰ}
+use Prim.Native.Nat.{ℕ, suc, _+_, _*_, _/_, _%_, _<_}
+use native.Mathlib.Nat.{mod-lt, zero-lt-suc}
 use native.Mathlib.Omega.{arith}
 use lib.Dec.{T}
 use lib.ListN.{getD, length}
@@ -24,7 +24,7 @@ use Rattle.search.specs.declared.Closed.{Closed}
 use Rattle.search.specs.Record.{bitAt, member}
 use Rattle.search.specs.Tables.{tables, classOf}
 use Rattle.search.specs.Entries.{Rule}
-use Rattle.search.specs.Parity.{search, bothParities}
+use Rattle.search.specs.Parity.{search}
 use Rattle.search.specs.Block.{coordinate, trioOf, targetsOf, pointAt, place, pointFrom}
 use Rattle.nearest.specs.Statement.{sumTo, RowOf, Leech, HasWord, RuleOk, at24}
 use Rattle.nearest.specs.Sums.{sum-same, sum-front}
@@ -118,8 +118,10 @@ module _ (y : List ℤ) where
     unfolding in-trio point-of
     in-rows W =
         record {
-          one = row-as (L .p) (first (wordOf columns (L .x))) _ _ _ (λ j. at24 y (coordinate j)) _ (first-at (L .x) ∙ byte1 (L .x)) refl (λ j h. trio-at j (up8 h)) (W .one);
-          two = row-as (L .p) (second (wordOf columns (L .x))) _ _ _ (λ j. at24 y (coordinate (8 + j))) _ (second-at (L .x) ∙ byte2 (L .x)) refl (λ j h. trio-at (8 + j) (up16 h)) (W .two);
+          one = row-as (L .p) (first (wordOf columns (L .x))) _ _ _
+              (λ j. at24 y (coordinate j)) _ (first-at (L .x) ∙ byte1 (L .x)) refl (λ j h. trio-at j (up8 h)) (W .one);
+          two = row-as (L .p) (second (wordOf columns (L .x))) _ _ _
+              (λ j. at24 y (coordinate (8 + j))) _ (second-at (L .x) ∙ byte2 (L .x)) refl (λ j h. trio-at (8 + j) (up16 h)) (W .two);
           three =
               row-as (L .p) (third (wordOf columns (L .x))) _ _ _ (λ j. at24 y (coordinate (16 + j))) _ (third-at (L .x) ∙ byte3 (L .x) (L .x-lt))
               (ap (classOf tables) (point-of tables tables-bytes trio in-trio .sec3 .class)) (λ j h. trio-at (16 + j) (up24 h)) (W .three);
@@ -151,7 +153,8 @@ module _ (z : List ℤ) where
 -- ---- the theorem
 -- t is the target, ps the parities searched, y the point, u the setting
 pub in-natural-order : (t : List Float) → length t ≡ 24 → ((j : ℕ) → j < 24 → T (fits binary64 (getD t j nan)))
-    → ((j : ℕ) → j < 24 → T (finite (getD t j nan))) → (ps : List ℕ) → ((q : ℕ) → List·Memᴰ q ps → q < 2) → (y : List ℤ) (L : Leech y) → List·Memᴰ (L .p) ps → HasWord y L
+    → ((j : ℕ) → j < 24 → T (finite (getD t j nan))) → (ps : List ℕ) → ((q : ℕ) → List·Memᴰ q ps → q < 2) → (y : List ℤ) (L : Leech y)
+    → List·Memᴰ (L .p) ps → HasWord y L
     → ((z : List ℤ) (Z : Leech z) → List·Memᴰ (Z .p) ps → z ≢ y → sqDist y t + margin < sqDist z t)
     → (u : Rule) → RuleOk u
     → (search tables u (targetsOf t) ps .found ≡ true) × (pointFrom (search tables u (targetsOf t) ps) ≡ y)
@@ -185,7 +188,9 @@ in-natural-order t len fit fin ps PS y L I0 W H u U0 =
 
     all : pointFrom (search tables u (targetsOf t) ps) ≡ y
     all =
-        ext-getD (pos 0) (pointFrom (search tables u (targetsOf t) ps)) y (tab-length ℤ (λ i. pointAt (search tables u (targetsOf t) ps) (place i)) 24 ∙ sym (L .len))
+        ext-getD (pos 0) (pointFrom (search tables u (targetsOf t) ps)) y
+        (tab-length ℤ (λ i. pointAt (search tables u (targetsOf t) ps) (place i)) 24 ∙ sym (L .len))
         (λ i h. let l : i < 24 = subst (λ (n : ℕ). i < n) (tab-length ℤ (λ i. pointAt (search tables u (targetsOf t) ps) (place i)) 24) h in
         let f = trio-fits i l in
-        tab-at ℤ (pos 0) (λ i. pointAt (search tables u (targetsOf t) ps) (place i)) 24 i l ∙ at (place i) (f .place-lt) ∙ trio-at y (place i) (f .place-lt) ∙ ap (at24 y) (f .order-place))
+        tab-at ℤ (pos 0) (λ i. pointAt (search tables u (targetsOf t) ps) (place i)) 24 i l ∙ at (place i) (f .place-lt)
+        ∙ trio-at y (place i) (f .place-lt) ∙ ap (at24 y) (f .order-place))

@@ -4,7 +4,7 @@
 use mathlib.Core.Path.{_≡_, refl, sym, ap, ap₂, _∙_, subst}
 use mathlib.Core.Logic.{_≢_, _⊎_, inl, inr}
 use mathlib.Core.List.{List, [], _∷_, map, List·Memᴰ}
-use Prim.Native.Nat.{ℕ, zero, suc, _+_, _*_, _^_, _≤_, _<_, suc-le-suc}
+use Prim.Native.Nat.{ℕ, suc, _+_, _*_, _≤_, _<_, suc-le-suc}
 use native.Mathlib.Nat.{le-trans, le-of-eq, lt-of-lt-of-le, lt-of-le-of-lt, mul-le-mul, mul-le-mul-right, add-mul, suc-mul, zero-lt-suc}
 use native.Mathlib.Omega.{arith}
 use lib.Dec.{T, lit≤}
@@ -15,7 +15,7 @@ use lib.Ieee.Scale.{finite}
 use Rattle.laws.specs.Lists.{tab, map-at}
 use Rattle.laws.specs.Whole.{posPart, negPart, gap}
 use Rattle.rank.specs.Coord.{parityOf}
-use Rattle.float.specs.Value.{U, posUnits, negUnits}
+use Rattle.float.specs.Value.{U}
 use Rattle.float.specs.Exact.{IsWhole, ofInt-whole}
 use Rattle.float.specs.Distance.{coordGap, sqDist, margin}
 use Rattle.tetra.specs.Lattice.{LatticePoint, HasWord}
@@ -166,7 +166,8 @@ all-answered answer d y W = d (doubles y) (on-target y W) y W (alone y W)
 -- so none that searches parity 0 and fakes parity 1 does: none whose answers are all even
 pub no-fake : (answer : List Float → List ℤ) → ((t : List Float) → parityOf (getD (answer t) 0 (pos 0)) ≡ 0) → Meets answer → ⊥
 unfolding tab
-no-fake answer even d = odd (sym (ap (λ (l : List ℤ). parityOf (getD l 0 (pos 0))) (all-answered answer d (pointOf 1) (decodes 1) ∙ P .1)) ∙ even (doubles (pointOf 1)))
+no-fake answer even d = odd (sym
+    (ap (λ (l : List ℤ). parityOf (getD l 0 (pos 0))) (all-answered answer d (pointOf 1) (decodes 1) ∙ P .1)) ∙ even (doubles (pointOf 1)))
   where
     odd : _≡_ {A = ℕ} 1 0 → ⊥
     odd e = omega arith

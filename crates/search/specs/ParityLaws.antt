@@ -9,7 +9,7 @@ use lib.Ieee.{lt}
 use Rattle.search.specs.declared.Winner.{Winner}
 use Rattle.search.specs.Tables.{Tables}
 use Rattle.search.specs.Entries.{Rule}
-use Rattle.search.specs.Parity.{Targets, parity, nobody, costOf, choose, searchOver, search}
+use Rattle.search.specs.Parity.{Targets, parity, nobody, costOf, searchOver, search}
 
 module _ (g : Tables) (u : Rule) (t : Targets) where
   parity-is : (p : ℕ) (w : Winner) → parity g u t p (costOf w) .p ≡ p
