@@ -21,11 +21,14 @@ use lib.Ieee.{Float, nan, binary64, fits}
 use lib.Ieee.Scale.{finite}
 use Rattle.float.specs.Distance.{sqDist, margin}
 use Rattle.tetra.specs.Lattice.{LatticePoint, HasWord}
+use Rattle.tetra.specs.Tetra.{natural}
+use Rattle.search.specs.Tables.{tables}
 use Rattle.search.specs.Parity.{bothParities}
 use Rattle.search.specs.Block.{ruleOf, winnerFor, pointFrom}
 use Rattle.nearest.specs.Statement.{RuleOk}
 use Rattle.nearest.specs.Link.{p-lt, leech, leech-parity, has-rows, lattice, lattice-parity}
-use Rattle.nearest.specs.Natural.{in-natural-order}
+use Rattle.nearest.specs.Sections.{LeechTrio}
+use Rattle.nearest.specs.Natural.{is-answered, is-point}
 
 -- ---- the statement
 -- a target: 24 numbers, each a double (`fits binary64`) and finite
@@ -61,11 +64,18 @@ pub nearest : (ps : List ℕ) → ((q : ℕ) → List·Memᴰ q ps → q < 2)
     → (y : List ℤ) (W : HasWord y) → List·Memᴰ (W .point .p) ps → Nearest ps y t
     → (n : ℕ) → Finds ps n t y
 nearest ps PS t D y W m H n =
-    let searched : List·Memᴰ (leech y (W .point) .p) ps = subst (λ (q : ℕ). List·Memᴰ q ps) (sym (leech-parity y (W .point))) m in
-    let r =
-    in-natural-order t (D .size) (D .double) (D .bounded) ps PS y (leech y (W .point)) searched (has-rows y W)
-    (λ z L i d. H z (lattice z L) (subst (λ (q : ℕ). List·Memᴰ q ps) (sym (lattice-parity z L)) i) d) (ruleOf n) (rule-ok n) in
-    record { found = r .0; point = r .1 }
+    record {
+      found = is-answered t (D .size) (D .double) (D .bounded) ps PS y (W .point .size) (leech y (W .point)) searched (has-rows y W) far
+          (ruleOf n) (rule-ok n);
+      point = is-point t (D .size) (D .double) (D .bounded) ps PS y (W .point .size) (leech y (W .point)) searched (has-rows y W) far
+          (ruleOf n) (rule-ok n);
+    }
+  where
+    searched : List·Memᴰ (leech y (W .point) .p) ps
+    searched = subst (λ (q : ℕ). List·Memᴰ q ps) (sym (leech-parity y (W .point))) m
+
+    far : (z : List ℤ) (Z : LeechTrio tables z) → List·Memᴰ (Z .p) ps → natural z ≢ y → sqDist y t + margin < sqDist (natural z) t
+    far z Z i d = H (natural z) (lattice z Z) (subst (λ (q : ℕ). List·Memᴰ q ps) (sym (lattice-parity z Z)) i) d
 
 -- ---- the full coder searches both parities: the lattice points are all there are
 both-lt : (q : ℕ) → List·Memᴰ q bothParities → q < 2
