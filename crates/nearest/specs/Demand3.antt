@@ -47,7 +47,7 @@ pub record Finds (ps : List ℕ) (n : ℕ) (t : List Float) (y : List ℤ) : Typ
   pub point : pointFrom (winnerFor ps n t) ≡ y
 
 -- ---- every setting runs at most the eight shrinks there are
-rule-ok : (n : ℕ) → RuleOk (ruleOf n)
+pub rule-ok : (n : ℕ) → RuleOk (ruleOf n)
 rule-ok n = record { ends = go (ltb n 7) refl; mids = up (ltb n 8) refl }
   where
     go : (b : Bool) → ltb n 7 ≡ b → cond b n 7 ≤ 8
@@ -78,7 +78,7 @@ nearest ps PS t D y W m H n =
     far z Z i d = H (natural z) (lattice z Z) (subst (λ (q : ℕ). List·Memᴰ q ps) (sym (lattice-parity z Z)) i) d
 
 -- ---- the full coder searches both parities: the lattice points are all there are
-both-lt : (q : ℕ) → List·Memᴰ q bothParities → q < 2
+pub both-lt : (q : ℕ) → List·Memᴰ q bothParities → q < 2
 both-lt q (List·Memᴰ·head e) = subst (λ (n : ℕ). n < 2) (sym e) (zero-lt-suc 1)
 both-lt q (List·Memᴰ·tail (List·Memᴰ·head e)) = subst (λ (n : ℕ). n < 2) (sym e) (le-refl 2)
 both-lt q (List·Memᴰ·tail (List·Memᴰ·tail m)) = absurd (List·Memᴰ·not-nil m)
@@ -101,9 +101,12 @@ only-zero : (q : ℕ) → List·Memᴰ q (0 ∷ []) → q ≡ 0
 only-zero q (List·Memᴰ·head e) = e
 only-zero q (List·Memᴰ·tail m) = absurd (List·Memᴰ·not-nil m)
 
+pub even-lt : (q : ℕ) → List·Memᴰ q (0 ∷ []) → q < 2
+even-lt q m = subst (λ (k : ℕ). k < 2) (sym (only-zero q m)) (zero-lt-suc 1)
+
 pub nearest-even : (t : List Float) → Target t → (y : List ℤ) (W : HasWord y) → W .point .p ≡ 0
     → ((z : List ℤ) (Z : LatticePoint z) → Z .p ≡ 0 → z ≢ y → sqDist y t + margin < sqDist z t)
     → (n : ℕ) → Finds (0 ∷ []) n t y
 nearest-even t D y W e H n =
-    nearest (0 ∷ []) (λ q m. subst (λ (k : ℕ). k < 2) (sym (only-zero q m)) (zero-lt-suc 1)) t D y W (List·Memᴰ·head e)
+    nearest (0 ∷ []) even-lt t D y W (List·Memᴰ·head e)
     (λ z Z m d. H z Z (only-zero (Z .p) m) d) n

@@ -52,7 +52,7 @@ lex-le (x ∷ v) (y ∷ w) a b e s t h =
         same (inr m) = inr (omega (arith, l .0, m .0), m .1)
 
 -- ---- eight ranks that meet a bound, packed
-cost-sum : (v : List ℕ) → cost v ≡ sumTo (λ j. sq (getD v j 0)) (length v)
+pub cost-sum : (v : List ℕ) → cost v ≡ sumTo (λ j. sq (getD v j 0)) (length v)
 unfolding sumTo
 cost-sum [] = refl
 cost-sum (r ∷ v) = ap (λ (n : ℕ). sq r + n) (cost-sum v) ∙ sum-front (λ j. sq (getD (r ∷ v) j 0)) (length v)
