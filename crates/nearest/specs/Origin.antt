@@ -28,7 +28,7 @@ use Rattle.search.specs.Entries.{Rule, rankAt, sectionAt}
 use Rattle.search.specs.Parity.{search}
 use Rattle.nearest.specs.Statement.{sumTo, RuleOk, at24, coordinate, Leech, HasWord, Target, targetsOf, pointFrom}
 use Rattle.nearest.specs.Sums.{sum-same}
-use Rattle.nearest.specs.Candidate.{term-le}
+use Rattle.nearest.specs.Shape.{term-le}
 use Rattle.nearest.specs.Nearest.{dist-sum, nearest}
 
 abbrev y0 : List ℤ

@@ -22,7 +22,7 @@ use Rattle.search.specs.declared.Winner.{Winner}
 use Rattle.nearest.specs.Statement.{oddK, sumTo, parK, RuleOk, at24, pointOf, sections}
 use Rattle.nearest.specs.Sums.{sum-same}
 use Rattle.nearest.specs.Lattice.{Point, Same, dist8, dist24, Margin, M, own1, own2, own3}
-use Rattle.nearest.specs.Steps.{ltb-yes, ltb-no}
+use Rattle.nearest.specs.Shape.{ltb-yes, ltb-no}
 use Rattle.nearest.specs.Winner.{GoodTables, secOf}
 use Rattle.nearest.specs.Parities.{IsY}
 use Rattle.nearest.specs.Premises.{MoreTables, HasRows, Target16, class-cost, all-facts, demand-three}
