@@ -1,7 +1,6 @@
 -- A candidate is eight whole numbers k; its cost, key and distance say what they are; if a bound holds of it, its value stands for the
 -- section of its key.
 use mathlib.Core.Path.{_≡_, refl, sym, ap, ap₂, _∙_, subst}
-use mathlib.Core.Logic.{_⊎_, inl, inr}
 use mathlib.Core.Bool.{Bool, true, false, not, _&&_, _||_}
 use mathlib.Core.List.{List}
 use Prim.Native.Nat.{ℕ, zero, suc, _+_, _*_, _/_, _^_, _≤_, _<_, zero-le}
@@ -25,11 +24,10 @@ use Rattle.search.specs.Record.{sqTo, member, bitAt}
 use Rattle.search.specs.Entries.{distTo, rankAt, sectionAt}
 use Rattle.search.specs.declared.Closed.{Closed}
 use Rattle.search.specs.Bound.{holds, lexOf}
-use Rattle.nearest.specs.Keys.{markK, rank-back, rank-lt}
-use Rattle.nearest.specs.Shape.{Shape, oAt, o-lt, term-le, holds-le, weight-le}
+use Rattle.nearest.specs.Keys.{markK}
+use Rattle.nearest.specs.Shape.{Shape, member-abs, oAt, o-lt, shape-at}
 use Rattle.nearest.specs.Statement.{sumTo, parK}
 use Rattle.nearest.specs.Sums.{sum-same}
-use Rattle.nearest.specs.Ints.{member-parts, abs-parts}
 use Rattle.nearest.specs.Coordinate.{Target, int-mg}
 use Rattle.nearest.specs.Operations.{H, near-plus}
 use Rattle.nearest.specs.Lattice.{dist8}
@@ -117,15 +115,7 @@ pub record Cand (ts : List Float) (p c : ℕ) (k : ℕ → ℤ) (cost key : ℕ)
   pub near : Near U dist (sumTo (λ j. sqV (member (oAt p c j) (k j)) (tAt ts j)) 8) 0 e
 
 pub member-small : (o : ℕ) (k : ℤ) → o < 4 → natAbs k < 31 → natAbs (member o k) < 128
-member-small o k h l = go (posPart (member o k)) (negPart (member o k)) o (posPart k) (negPart k) (natAbs k) (natAbs (member o k)) h l (abs-parts k) (abs-parts (member o k)) (member-parts o k) (one (member o k))
-  where
-    one : (z : ℤ) → (posPart z ≡ 0) ⊎ (negPart z ≡ 0)
-    one (pos n) = inr refl
-    one (negsuc n) = inl refl
-
-    go : (p n o a b m v : ℕ) → o < 4 → m < 31 → m ≡ a + b → v ≡ p + n → p + 4 * b ≡ o + 4 * a + n → (p ≡ 0) ⊎ (n ≡ 0) → v < 128
-    go p n o a b m v h l x y z (inl q) = omega arith
-    go p n o a b m v h l x y z (inr q) = omega arith
+member-small o k h l = let a = member-abs o k in omega arith
 
 module _ (ts : List Float) (p c r : ℕ) (P0 : p < 2) (T0 : (j : ℕ) → j < 8 → Target (tAt ts j)) (b : Closed) (B0 : b .cost ≤ 96) where
   pub cand-stands : (k : ℕ → ℤ) (cost key : ℕ) (dist : Float) (e : ℕ) → e ≤ ES → Cand ts p c k cost key dist e → parK k 8 ≡ r → holds b cost key ≡ true → Stands p c r ts key dist
@@ -136,12 +126,8 @@ module _ (ts : List Float) (p c r : ℕ) (P0 : p < 2) (T0 : (j : ℕ) → j < 8 
         room = le-trans (le-of-eq same) (le-trans (sum-top (λ j. member (oAt p c j) (k j)) ts (λ j l. member-small (oAt p c j) (k j) (o-lt p c j P0) (C .small j l)) T0 8 (le-refl 8)) (lit≤ tt));
       }
     where
-      rank4 : (j : ℕ) → j < 8 → markK (oAt p c j) (k j) ≤ 4
-      rank4 j l = weight-le (markK (oAt p c j) (k j)) (rank-lt (oAt p c j) (k j))
-          (le-trans (term-le (λ j. sq (markK (oAt p c j) (k j))) 8 j l) (le-trans (le-of-eq (sym (C .shape .cost-is))) (le-trans (holds-le b cost key h) B0)))
-
       at : (j : ℕ) → j < 8 → sectionAt p c key j ≡ member (oAt p c j) (k j)
-      at j l = ap (valOf (oAt p c j)) (C .shape .key-is j l) ∙ rank-back (oAt p c j) (k j) (o-lt p c j P0) (rank4 j l)
+      at = shape-at p c P0 b B0 k cost key (C .shape) h
 
       same : dist8 (sectionAt p c key) ts ≡ sumTo (λ j. sqV (member (oAt p c j) (k j)) (tAt ts j)) 8
       same = sum-same (λ j. sqV (sectionAt p c key j) (tAt ts j)) (λ j. sqV (member (oAt p c j) (k j)) (tAt ts j)) 8 (λ j l. ap (λ (z : ℤ). sqV z (tAt ts j)) (at j l))

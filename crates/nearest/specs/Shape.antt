@@ -1,20 +1,22 @@
 -- The shape of a candidate, which is eight whole numbers k: its cost is the sum of the weights of its ranks, and its packed row holds its ranks.
 -- Whole numbers only, so for any targets.
 use mathlib.Core.Path.{_≡_, refl, sym, ap, ap₂, _∙_, subst}
-use mathlib.Core.Logic.{_≢_}
+use mathlib.Core.Logic.{_≢_, _⊎_, inl, inr}
 use mathlib.Core.Bool.{Bool, true, false, not, cond, _&&_, _||_}
 use mathlib.Core.List.{List}
 use Prim.Native.Nat.{ℕ, zero, suc, _+_, _-_, _*_, _/_, _%_, _^_, _≤_, _<_, zero-le}
-use native.Mathlib.Nat.{le-refl, le-of-eq, le-of-lt, lt-of-le-of-lt, mul-le-mul, mod-lt, zero-lt-suc}
+use native.Mathlib.Nat.{le-refl, le-trans, le-of-eq, le-of-lt, lt-of-le-of-lt, mul-le-mul, mod-lt, zero-lt-suc}
 use native.Mathlib.Omega.{arith}
 use native.Mathlib.Decide.{ℕ-discrete}
 use lib.Dec.{T, ltb, leb, eqb, ltb→lt, nltb→le, leb→le, nleb→lt, eqb→eq, lit≤}
 use lib.ListN.{getD}
 use lib.Bits.{bitOr, bitAnd, or-lt, and-le-l}
-use lib.IntN.{ℤ}
-use lib.Ieee.{Float, nan}
+use lib.IntN.{ℤ, pos, negsuc, natAbs, _+ℤ_, _-ℤ_}
+use lib.Ieee.{Float, nan, binary64, add}
 use Rattle.laws.specs.Lists.{tab-at}
 use Rattle.laws.specs.Tests.{upto, below}
+use Rattle.laws.specs.Whole.{posPart, negPart}
+use Rattle.rank.specs.Coord.{valOf}
 use Rattle.rank.specs.Vector.{sq}
 use Rattle.search.specs.declared.Coord.{Coord}
 use Rattle.search.specs.declared.Closed.{Closed}
@@ -22,10 +24,11 @@ use Rattle.search.specs.Record.{coordAt, noCoord, coordOf, row, shrinks, five, 
 use Rattle.search.specs.Bound.{holds, lexOf}
 use Rattle.search.specs.Base.{slotOf, nowTo, keySet}
 use Rattle.search.specs.Solve.{keyMoved}
-use Rattle.search.specs.Entries.{rankAt}
-use Rattle.nearest.specs.Keys.{markK, rank-lt, nib-put, nib-set, nib-moved}
+use Rattle.search.specs.Entries.{rankAt, distTo, sectionAt}
+use Rattle.nearest.specs.Keys.{markK, rank-lt, rank-back, nib-put, nib-set, nib-moved}
 use Rattle.nearest.specs.Statement.{sumTo}
 use Rattle.nearest.specs.Sums.{sum-set}
+use Rattle.nearest.specs.Ints.{add-parts, abs-parts, member-parts}
 use Rattle.nearest.specs.Base.{eqb-no, eqb-yes}
 
 abbrev pub oAt : ℕ → ℕ → ℕ → ℕ
@@ -160,6 +163,42 @@ moved-lt key x j y l h =
 set-lt : (key x j : ℕ) → key < 2 ^ 32 → keySet key j x < 2 ^ 32
 unfolding keySet
 set-lt key x j h = or-lt 32 (bitAnd key (4294967295 - 15 * 2 ^ (4 * j) % 4294967296)) (x * 2 ^ (4 * j) % 4294967296) (lt-of-le-of-lt (and-le-l key (4294967295 - 15 * 2 ^ (4 * j) % 4294967296)) h) (mod-lt (x * 2 ^ (4 * j)) (zero-lt-suc 4294967295))
+
+-- ---- sizes
+pub member-abs : (o : ℕ) (k : ℤ) → natAbs (member o k) ≤ o + 4 * natAbs k
+member-abs o k = go (posPart (member o k)) (negPart (member o k)) o (posPart k) (negPart k) (natAbs k) (natAbs (member o k)) (abs-parts k) (abs-parts (member o k)) (member-parts o k) (one (member o k))
+  where
+    one : (z : ℤ) → (posPart z ≡ 0) ⊎ (negPart z ≡ 0)
+    one (pos n) = inr refl
+    one (negsuc n) = inl refl
+
+    go : (p n o a b m v : ℕ) → m ≡ a + b → v ≡ p + n → p + 4 * b ≡ o + 4 * a + n → (p ≡ 0) ⊎ (n ≡ 0) → v ≤ o + 4 * m
+    go p n o a b m v x y z (inl q) = omega arith
+    go p n o a b m v x y z (inr q) = omega arith
+
+off-abs : (f : ℕ) → f < 5 → natAbs (pos f -ℤ pos 2) ≤ 2
+off-abs zero h = le-refl 2
+off-abs (suc zero) h = omega arith
+off-abs (suc (suc zero)) h = omega arith
+off-abs (suc (suc (suc zero))) h = omega arith
+off-abs (suc (suc (suc (suc zero)))) h = le-refl 2
+off-abs (suc (suc (suc (suc (suc n))))) h = absurd (none h)
+  where
+    none : suc (suc (suc (suc (suc n)))) < 5 → ⊥
+    none h = omega arith
+
+pub slot-abs : (k : ℤ) (f : ℕ) → f < 5 → natAbs (slotK k f) ≤ natAbs k + 2
+slot-abs k f l =
+    let z = pos f -ℤ pos 2 in
+    go (posPart (k +ℤ z)) (negPart (k +ℤ z)) (posPart k) (negPart k) (posPart z) (negPart z) (natAbs k) (natAbs z) (natAbs (k +ℤ z)) (off-abs f l) (abs-parts k) (abs-parts z) (abs-parts (k +ℤ z)) (add-parts k z) (one (k +ℤ z))
+  where
+    one : (z : ℤ) → (posPart z ≡ 0) ⊎ (negPart z ≡ 0)
+    one (pos n) = inr refl
+    one (negsuc n) = inl refl
+
+    go : (p n a b c d m o v : ℕ) → o ≤ 2 → m ≡ a + b → o ≡ c + d → v ≡ p + n → p + (b + d) ≡ a + c + n → (p ≡ 0) ⊎ (n ≡ 0) → v ≤ m + 2
+    go p n a b c d m o v l x y z w (inl q) = omega arith
+    go p n a b c d m o v l x y z w (inr q) = omega arith
 
 -- ---- the ranks and the weights of a row of records
 pub record Slots (p c : ℕ) (e : List Coord) : Type 0 where
@@ -307,3 +346,22 @@ module _ (p c : ℕ) (k k' : ℕ → ℤ) (i l : ℕ) (I0 : i < 8) (L0 : l < 8) 
           go (yes q) m = ap (λ (t : Bool). cond t (markK (oAt p c i) (k' i)) (cond (eqb j l) (markK (oAt p c l) (k' l)) (rankAt key j))) (subst (λ (z : ℕ). eqb j z ≡ true) q (eqb-yes j)) ∙ ap (λ (z : ℕ). markK (oAt p c z) (k' z)) (sym q)
           go (no d) (yes q) = ap (λ (t : Bool). cond t (markK (oAt p c i) (k' i)) (cond (eqb j l) (markK (oAt p c l) (k' l)) (rankAt key j))) (eqb-no j i d) ∙ ap (λ (t : Bool). cond t (markK (oAt p c l) (k' l)) (rankAt key j)) (subst (λ (z : ℕ). eqb j z ≡ true) q (eqb-yes j)) ∙ ap (λ (z : ℕ). markK (oAt p c z) (k' z)) (sym q)
           go (no d) (no e) = ap (λ (t : Bool). cond t (markK (oAt p c i) (k' i)) (cond (eqb j l) (markK (oAt p c l) (k' l)) (rankAt key j))) (eqb-no j i d) ∙ ap (λ (t : Bool). cond t (markK (oAt p c l) (k' l)) (rankAt key j)) (eqb-no j l e) ∙ C .key-is j h ∙ ap (markK (oAt p c j)) (sym (K0 j h d e))
+
+-- ---- the distance of all eight is their section's, summed afresh
+abbrev pub Dists : List Float → ℕ → ℕ → List Coord → Type 0
+Dists ts p c e = (j f : ℕ) → j < 8 → f < 5 → getD (coordAt e j .d) f nan ≡ sqTo (member (oAt p c j) (slotK (coordAt e j .k0) f)) (getD ts j nan)
+
+pub now-dist : (ts : List Float) (p c : ℕ) (e : List Coord) → Dists ts p c e → (j0 fix : ℕ) → fix < 5 → (n : ℕ) → n ≤ 8
+    → nowTo e j0 fix n .dist ≡ distTo (λ j. member (oAt p c j) (slotK (coordAt e j .k0) (slotOf j0 fix j))) ts n
+unfolding nowTo distTo
+now-dist ts p c e D j0 fix F0 zero h = refl
+now-dist ts p c e D j0 fix F0 (suc n) h = ap₂ (add binary64) (now-dist ts p c e D j0 fix F0 n (omega arith)) (D n (slotOf j0 fix n) h (slot-lt j0 fix n F0))
+
+-- ---- within a bound a candidate's key is its section's: ranks of at most 4 give their members back
+pub shape-at : (p c : ℕ) → p < 2 → (b : Closed) → b .cost ≤ 96 → (k : ℕ → ℤ) (cost key : ℕ) → Shape p c k cost key → holds b cost key ≡ true
+    → (j : ℕ) → j < 8 → sectionAt p c key j ≡ member (oAt p c j) (k j)
+shape-at p c P0 b B0 k cost key C h j l = ap (valOf (oAt p c j)) (C .key-is j l) ∙ rank-back (oAt p c j) (k j) (o-lt p c j P0) rank4
+  where
+    rank4 : markK (oAt p c j) (k j) ≤ 4
+    rank4 = weight-le (markK (oAt p c j) (k j)) (rank-lt (oAt p c j) (k j))
+        (le-trans (term-le (λ j. sq (markK (oAt p c j) (k j))) 8 j l) (le-trans (le-of-eq (sym (C .cost-is))) (le-trans (holds-le b cost key h) B0)))

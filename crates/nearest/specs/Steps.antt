@@ -1,6 +1,6 @@
 -- Candidates made by the loops: all eight at their slots, then one or two coordinates stepped.
 use mathlib.Core.Path.{_≡_, refl, sym, ap, ap₂, subst}
-use mathlib.Core.Logic.{_≢_, _⊎_, inl, inr}
+use mathlib.Core.Logic.{_≢_}
 use mathlib.Core.List.{List}
 use Prim.Native.Nat.{ℕ, zero, suc, _+_, _-_, _*_, _≤_, _<_}
 use native.Mathlib.Nat.{le-refl, lt-of-le-of-lt}
@@ -8,11 +8,10 @@ use native.Mathlib.Omega.{arith}
 use native.Mathlib.Decide.{ℕ-discrete}
 use lib.Dec.{lit≤}
 use lib.ListN.{getD}
-use lib.IntN.{ℤ, pos, negsuc, natAbs, _+ℤ_, _-ℤ_}
+use lib.IntN.{ℤ, natAbs}
 use lib.Ieee.{Float, nan, binary64, add, sub}
 use Rattle.float.specs.Value.{U}
 use Rattle.float.specs.Near.{Near, near-parts}
-use Rattle.laws.specs.Whole.{posPart, negPart}
 use Rattle.rank.specs.Vector.{sq}
 use Rattle.search.specs.declared.Coord.{Coord}
 use Rattle.search.specs.Record.{coordAt, slotK, sqTo, member}
@@ -21,53 +20,26 @@ use Rattle.search.specs.Entries.{distTo}
 use Rattle.nearest.specs.Keys.{markK}
 use Rattle.nearest.specs.Statement.{sumTo}
 use Rattle.nearest.specs.Sums.{sum-set}
-use Rattle.nearest.specs.Ints.{add-parts, abs-parts}
 use Rattle.nearest.specs.Coordinate.{Target}
 use Rattle.nearest.specs.Operations.{H, near-plus, near-less}
 use Rattle.nearest.specs.Entries.{ES}
-use Rattle.nearest.specs.Shape.{Slots, oAt, o-lt, slot-lt, now-shape, step-shape}
+use Rattle.nearest.specs.Shape.{Slots, Dists, now-dist, oAt, o-lt, slot-abs, slot-lt, now-shape, step-shape}
 use Rattle.nearest.specs.Candidate.{Cand, ET, TopT, tAt, sqV, term, near-dist, sum-top, member-small}
 
 -- what a row of records is
 pub record Row (ts : List Float) (p c : ℕ) (e : List Coord) : Type 0 where
   pub small : (j : ℕ) → j < 8 → natAbs (coordAt e j .k0) < 16
   pub slots : Slots p c e
-  pub d-is : (j f : ℕ) → j < 8 → f < 5 → getD (coordAt e j .d) f nan ≡ sqTo (member (oAt p c j) (slotK (coordAt e j .k0) f)) (tAt ts j)
-
-off-abs : (f : ℕ) → f < 5 → natAbs (pos f -ℤ pos 2) ≤ 2
-off-abs zero h = le-refl 2
-off-abs (suc zero) h = omega arith
-off-abs (suc (suc zero)) h = omega arith
-off-abs (suc (suc (suc zero))) h = omega arith
-off-abs (suc (suc (suc (suc zero)))) h = le-refl 2
-off-abs (suc (suc (suc (suc (suc n))))) h = absurd (none h)
-  where
-    none : suc (suc (suc (suc (suc n)))) < 5 → ⊥
-    none h = omega arith
+  pub d-is : Dists ts p c e
 
 pub slot-small : (k : ℤ) (f : ℕ) → natAbs k < 16 → f < 5 → natAbs (slotK k f) < 31
-slot-small k f h l =
-    let z = pos f -ℤ pos 2 in
-    go (posPart (k +ℤ z)) (negPart (k +ℤ z)) (posPart k) (negPart k) (posPart z) (negPart z) (natAbs k) (natAbs z) (natAbs (k +ℤ z)) h (off-abs f l) (abs-parts k) (abs-parts z) (abs-parts (k +ℤ z)) (add-parts k z) (one (k +ℤ z))
-  where
-    one : (z : ℤ) → (posPart z ≡ 0) ⊎ (negPart z ≡ 0)
-    one (pos n) = inr refl
-    one (negsuc n) = inl refl
-
-    go : (p n a b c d m o v : ℕ) → m < 16 → o ≤ 2 → m ≡ a + b → o ≡ c + d → v ≡ p + n → p + (b + d) ≡ a + c + n → (p ≡ 0) ⊎ (n ≡ 0) → v < 31
-    go p n a b c d m o v h l x y z w (inl q) = omega arith
-    go p n a b c d m o v h l x y z w (inr q) = omega arith
+slot-small k f h l = let a = slot-abs k f l in omega arith
 
 -- ---- all eight at their slots
 module _ (ts : List Float) (p c : ℕ) (P0 : p < 2) (T0 : (j : ℕ) → j < 8 → Target (tAt ts j)) (e : List Coord) (R : Row ts p c e) where
   module _ (j0 fix : ℕ) (F0 : fix < 5) where
     abbrev pub kS : ℕ → ℤ
     kS j = slotK (coordAt e j .k0) (slotOf j0 fix j)
-
-    now-dist : (n : ℕ) → n ≤ 8 → nowTo e j0 fix n .dist ≡ distTo (λ j. member (oAt p c j) (kS j)) ts n
-    unfolding nowTo distTo
-    now-dist zero h = refl
-    now-dist (suc n) h = ap₂ (add binary64) (now-dist n (omega arith)) (R .d-is n (slotOf j0 fix n) h (slot-lt j0 fix n F0))
 
     kS-small : (j : ℕ) → j < 8 → natAbs (kS j) < 31
     kS-small j h = slot-small (coordAt e j .k0) (slotOf j0 fix j) (R .small j h) (slot-lt j0 fix j F0)
@@ -76,7 +48,7 @@ module _ (ts : List Float) (p c : ℕ) (P0 : p < 2) (T0 : (j : ℕ) → j < 8 �
     now-cand = record {
       small = kS-small;
       shape = now-shape p c e (R .slots) j0 fix F0;
-      near = subst (λ (x : Float). Near U x (sumTo (λ j. sqV (member (oAt p c j) (kS j)) (tAt ts j)) 8) 0 (8 * (ET + H))) (sym (now-dist 8 (le-refl 8)))
+      near = subst (λ (x : Float). Near U x (sumTo (λ j. sqV (member (oAt p c j) (kS j)) (tAt ts j)) 8) 0 (8 * (ET + H))) (sym (now-dist ts p c e (R .d-is) j0 fix F0 8 (le-refl 8)))
           (near-dist (λ j. member (oAt p c j) (kS j)) ts (λ j h. member-small (oAt p c j) (kS j) (o-lt p c j P0) (kS-small j h)) T0 8 (le-refl 8));
     }
 

@@ -1,0 +1,3 @@
+-- doubles of bounded size; candidates and what the rule meets
+pub mod Sizes
+pub mod Candidates
