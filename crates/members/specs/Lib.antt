@@ -1,3 +1,4 @@
 -- doubles of bounded size; candidates and what the rule meets
 pub mod Sizes
 pub mod Candidates
+pub mod Zero

@@ -108,7 +108,7 @@ near-val : T (upto 4 (λ o. upto 16 (λ r. ltb (natAbs (valOf o r)) 128)))
 unfolding valOf
 near-val = tt
 
-val-small : (o r : ℕ) → o < 4 → r < 16 → natAbs (valOf o r) < 128
+pub val-small : (o r : ℕ) → o < 4 → r < 16 → natAbs (valOf o r) < 128
 val-small o r h l =
     ltb→lt (natAbs (valOf o r)) 128 (below 16 (λ r. ltb (natAbs (valOf o r)) 128) (below 4 (λ o. upto 16 (λ r. ltb (natAbs (valOf o r)) 128)) near-val o h) r l)
 
