@@ -2,3 +2,4 @@
 pub mod Sizes
 pub mod Candidates
 pub mod Zero
+pub mod Middle
