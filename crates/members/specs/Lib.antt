@@ -3,3 +3,4 @@ pub mod Sizes
 pub mod Candidates
 pub mod Zero
 pub mod Middle
+pub mod Entries
