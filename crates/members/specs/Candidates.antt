@@ -29,7 +29,7 @@ use Rattle.nearest.specs.Sums.{sum-same}
 use Rattle.nearest.specs.Keys.{markK}
 use Rattle.nearest.specs.Base.{eqb-no, eqb-yes, worst-lt}
 use Rattle.nearest.specs.Shape.{oAt, o-lt, Slots, Shape, shape-eq, shape-at, row-at, row-slots, row-d, slot-lt, now-shape, now-dist, step-shape, two-shape}
-use Rattle.nearest.specs.Rule.{kBase, kPair, pair-i, pair-l, pair-off, Gives, solve-holds, slot-class, mid-lt, toward-mid}
+use Rattle.nearest.specs.Rule.{kBase, kPair, moved-shape, stepped-shape, Gives, solve-holds, slot-class, mid-lt, toward-mid}
 use Rattle.members.specs.Sizes.{Below, wider, Room, Err, Term, Target, add-below, sub-below, term-below, dist-below, member-far, slot-far}
 
 -- ---- the packed row `key` is a member of parity p, byte c, class r and bound b
@@ -108,34 +108,7 @@ module _ (ts : List Float) (p c s : ℕ) (P0 : p < 2) (T0 : (j : ℕ) → j < 8 
       (d-below i fj I0 F1))
       (d-below l f2 L0 F2)
 
-  moved-shape : (j0 fix i fj l f2 : ℕ) → fix < 5 → i < 8 → fj < 5 → l < 8 → f2 < 5 → i ≢ l
-      → Shape p c (kPair e j0 fix i fj l f2) (movedC (coordAt e i) (coordAt e l) (nowTo e j0 fix 8 .cost) (slotOf j0 fix i) fj (slotOf j0 fix l) f2)
-      (keyMoved (nowTo e j0 fix 8 .key) i (getD (coordAt e i .rank) fj 0) l (getD (coordAt e l .rank) f2 0))
-  moved-shape j0 fix i fj l f2 F0 I0 F1 L0 F2 D0 =
-      shape-eq p c (two-shape p c (kBase e j0 fix) (kPair e j0 fix i fj l f2) i l I0 L0 D0 (pair-off e j0 fix i fj l f2 D0) (now .cost) (now .key) (now-shape p c e R j0 fix F0))
-      (four _ _ _ _ _ _ _ _ (R .w-is i (slotOf j0 fix i) I0 (slot-lt j0 fix i F0)) (R .w-is l (slotOf j0 fix l) L0 (slot-lt j0 fix l F0))
-      (R .w-is i fj I0 F1 ∙ ap (λ (z : ℤ). sq (markK (oAt p c i) z)) (sym at-i)) (R .w-is l f2 L0 F2 ∙ ap (λ (z : ℤ). sq (markK (oAt p c l) z)) (sym at-l)))
-      (ap₂ (λ (x y : ℕ). keyMoved (now .key) i x l y) (R .rank-is i fj I0 F1 ∙ ap (markK (oAt p c i)) (sym at-i)) (R .rank-is l f2 L0 F2 ∙ ap (markK (oAt p c l)) (sym at-l)))
-    where
-      now : Now
-      now = nowTo e j0 fix 8
-
-      R : Slots p c e
-      R = row-slots ts p c s
-
-      at-i : kPair e j0 fix i fj l f2 i ≡ slotK (coordAt e i .k0) fj
-      at-i = pair-i e j0 fix i fj l f2 D0
-
-      at-l : kPair e j0 fix i fj l f2 l ≡ slotK (coordAt e l .k0) f2
-      at-l = pair-l e j0 fix i fj l f2 D0
-
-      four : (x x' y y' u u' v v' : ℕ) → x ≡ x' → y ≡ y' → u ≡ u' → v ≡ v' → nowTo e j0 fix 8 .cost - x - y + u + v ≡ nowTo e j0 fix 8 .cost - x' - y' + u' + v'
-      four x x' y y' u u' v v' p q r s = ap₂ (λ (a b : ℕ). nowTo e j0 fix 8 .cost - a - b + u + v) p q ∙ ap₂ (λ (a b : ℕ). nowTo e j0 fix 8 .cost - x' - y' + a + b) r s
-
   -- ---- the base of a pattern
-  plain-slot : (i : ℕ) → slotOf 0 2 i ≡ 2
-  plain-slot i = cond-same ℕ (eqb i 0) 2
-
   abbrev jW : ℕ
   jW = worstTo e 8
 
@@ -147,22 +120,6 @@ module _ (ts : List Float) (p c s : ℕ) (P0 : p < 2) (T0 : (j : ℕ) → j < 8 
 
   w8 : jW < 8
   w8 = worst-lt e 8 (le-refl 8)
-
-  stepped-shape : Shape p c (kBase e jW to) (stepped (coordAt e jW) (nowTo e 0 2 8) jW .cost) (stepped (coordAt e jW) (nowTo e 0 2 8) jW .key)
-  unfolding stepped
-  stepped-shape =
-      shape-eq p c (step-shape p c (kBase e 0 2) (kBase e jW to) jW w8 off (nowTo e 0 2 8 .cost) (nowTo e 0 2 8 .key) (now-shape p c e R 0 2 (lit≤ tt)))
-      (ap₂ (λ (a b : ℕ). nowTo e 0 2 8 .cost - a + b) (R .w-is jW 2 w8 (lit≤ tt) ∙ ap (λ (f : ℕ). sq (markK (oAt p c jW) (slotK (coordAt e jW .k0) f))) (sym (plain-slot jW))) (R .w-is jW to w8 t5 ∙ ap (λ (z : ℤ). sq (markK (oAt p c jW) z)) (sym at-w)))
-      (ap (keySet (nowTo e 0 2 8 .key) jW) (R .rank-is jW to w8 t5 ∙ ap (markK (oAt p c jW)) (sym at-w)))
-    where
-      R : Slots p c e
-      R = row-slots ts p c s
-
-      at-w : kBase e jW to jW ≡ slotK (coordAt e jW .k0) to
-      at-w = ap (λ (b : Bool). slotK (coordAt e jW .k0) (cond b to 2)) (eqb-yes jW)
-
-      off : (j : ℕ) → j < 8 → j ≢ jW → kBase e jW to j ≡ kBase e 0 2 j
-      off j h d = ap (λ (b : Bool). slotK (coordAt e j .k0) (cond b to 2)) (eqb-no j jW d) ∙ ap (slotK (coordAt e j .k0)) (sym (plain-slot j))
 
   stepped-below : Below Far (stepped (coordAt e jW) (nowTo e 0 2 8) jW .dist)
   unfolding stepped
@@ -184,7 +141,7 @@ module _ (ts : List Float) (p c s : ℕ) (P0 : p < 2) (T0 : (j : ℕ) → j < 8 
           → Member p c r b ((cond x (nowTo e 0 2 8) (stepped (coordAt e jW) (nowTo e 0 2 8) jW)) .key)
       go true q h = shape-member p c r P0 b B0 (kBase e 0 2) (nowTo e 0 2 8 .cost) (nowTo e 0 2 8 .key) (now-shape p c e (row-slots ts p c s) 0 2 (lit≤ tt))
           (subst (λ (x : Bool). parK (kBase e 0 (cond x 2 (towardOf (coordAt e 0 .dir)))) 8 ≡ r) q (slot-class e 0 r (lit≤ tt) R0)) h
-      go false q h = shape-member p c r P0 b B0 (kBase e jW to) (stepped (coordAt e jW) (nowTo e 0 2 8) jW .cost) (stepped (coordAt e jW) (nowTo e 0 2 8) jW .key) stepped-shape
+      go false q h = shape-member p c r P0 b B0 (kBase e jW to) (stepped (coordAt e jW) (nowTo e 0 2 8) jW .cost) (stepped (coordAt e jW) (nowTo e 0 2 8) jW .key) (stepped-shape p c e (row-slots ts p c s))
           (subst (λ (x : Bool). parK (kBase e jW (cond x 2 (towardOf (coordAt e jW .dir)))) 8 ≡ r) q (slot-class e jW r w8 R0)) h
 
   -- ---- what every candidate within the bound is
@@ -196,7 +153,7 @@ module _ (ts : List Float) (p c s : ℕ) (P0 : p < 2) (T0 : (j : ℕ) → j < 8 
     };
     pair = λ j0 fix i fj l f2 F0 I0 F1 L0 F2 D0 q h. record {
       is = shape-member p c want P0 b B0 (kPair e j0 fix i fj l f2) (movedC (coordAt e i) (coordAt e l) (nowTo e j0 fix 8 .cost) (slotOf j0 fix i) fj (slotOf j0 fix l) f2)
-          (keyMoved (nowTo e j0 fix 8 .key) i (getD (coordAt e i .rank) fj 0) l (getD (coordAt e l .rank) f2 0)) (moved-shape j0 fix i fj l f2 F0 I0 F1 L0 F2 D0) q h;
+          (keyMoved (nowTo e j0 fix 8 .key) i (getD (coordAt e i .rank) fj 0) l (getD (coordAt e l .rank) f2 0)) (moved-shape p c e (row-slots ts p c s) j0 fix i fj l f2 F0 I0 F1 L0 F2 D0) q h;
       below = moved-below j0 fix i fj l f2 F0 I0 F1 L0 F2;
     };
   }

@@ -29,7 +29,7 @@ use Rattle.search.specs.Parity.{Targets, Seed, closed, starts, solved1, solved2
 use Rattle.nearest.specs.Statement.{RuleOk}
 use Rattle.nearest.specs.Under.{Num, Plain, Under, inf-lt, add-inf-l, add-inf-r}
 use Rattle.nearest.specs.Entries.{EndByte, fixed-keeps, set-either}
-use Rattle.nearest.specs.Pass.{MidByte, seeds-keep}
+use Rattle.nearest.specs.Pass.{MidByte, half, small, bit, seeds-keep}
 use Rattle.nearest.specs.Winner.{mid-at-lt, last-at-lt}
 use Rattle.nearest.specs.Join.{Seen, join-seen, join-under}
 use Rattle.nearest.specs.TableFacts.{tables-good}
@@ -169,15 +169,6 @@ module _ (p : ℕ) (s : Sides) (L : AllLast p s) where
       (join-under tables p s (way-num p s vals) i n k (below-under (Far3 * U) (lit≤ tt) a) (below-under (Far3 * U) (le-refl (Far3 * U)) (sum-below a b c)) 128 (le-refl 128) h .fin)
 
 -- ---- one parity, at targets up to a million
-half : {i : ℕ} → i < 128 → i / 64 < 2
-half h = omega arith
-
-small : (i : ℕ) → i % 64 < 64
-small i = mod-lt i (zero-lt-suc 63)
-
-bit : (i : ℕ) → i % 2 < 2
-bit i = mod-lt i (zero-lt-suc 1)
-
 closed-last : (Byte : ℕ → Type 0) (p r : ℕ) (b : Closed) (e : Entry) (under : Bool) (new : Entry) → Fine Byte p r b e → Held Byte p r b new → Last Byte p r b (closed e under new)
 closed-last Byte p r b e under new f h = go (e .exact) (f .held)
   where

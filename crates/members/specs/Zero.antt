@@ -35,7 +35,8 @@ use Rattle.nearest.specs.Statement.{sumTo}
 use Rattle.nearest.specs.Sums.{sum-le, sum-set}
 use Rattle.nearest.specs.Keys.{markK}
 use Rattle.nearest.specs.Base.{eqb-no, eqb-yes}
-use Rattle.nearest.specs.Shape.{oAt, Shape, row-at, row-slots, now-shape}
+use Rattle.nearest.specs.Under.{clash}
+use Rattle.nearest.specs.Shape.{oAt, o-lt, Shape, row-at, row-slots, now-shape}
 use Rattle.nearest.specs.Rule.{kBase, top-ok, mid-lt, toward-mid}
 use Rattle.members.specs.Sizes.{Target}
 
@@ -203,9 +204,6 @@ shrink-zero : getD shrinks 7 nan ≡ zero64
 unfolding shrinks
 shrink-zero = refl
 
-o-lt4 : (p c j : ℕ) → p < 2 → oAt p c j < 4
-o-lt4 p c j h = let a = mod-lt (c / 2 ^ j) (zero-lt-suc 1) in omega arith
-
 even-case : (c j : ℕ) → (oAt 0 c j ≡ 0) ⊎ (oAt 0 c j ≡ 2)
 even-case c j = go (c / 2 ^ j % 2) (mod-lt (c / 2 ^ j) (zero-lt-suc 1))
   where
@@ -241,16 +239,16 @@ module _ (ts : List Float) (p c : ℕ) (P0 : p < 2) (T0 : (j : ℕ) → j < 8 �
   is-mt j h = ap (λ (k : ℤ). markK (o j) (slotK k (towardOf (coordAt e j .dir)))) (at j h .k-is) ∙ ap (λ (d : ℤ). markK (o j) (slotK (kF (at j h .s) (o j)) (towardOf d))) (at j h .dir-is)
 
   two-le : (j : ℕ) → j < 8 → markK (o j) (slotK (coordAt e j .k0) 2) ≤ 1
-  two-le j h = le-trans (le-of-eq (is-m2 j h)) (marks-at (at j h .s) (o j) (o-lt4 p c j P0) .two-le)
+  two-le j h = le-trans (le-of-eq (is-m2 j h)) (marks-at (at j h .s) (o j) (o-lt p c j P0) .two-le)
 
   two-none : (j : ℕ) → j < 8 → o j ≢ 2 → markK (o j) (slotK (coordAt e j .k0) 2) ≡ 0
-  two-none j h d = is-m2 j h ∙ marks-at (at j h .s) (o j) (o-lt4 p c j P0) .two-none d
+  two-none j h d = is-m2 j h ∙ marks-at (at j h .s) (o j) (o-lt p c j P0) .two-none d
 
   to-le : (j : ℕ) → j < 8 → markK (o j) (slotK (coordAt e j .k0) (towardOf (coordAt e j .dir))) ≤ 2
-  to-le j h = le-trans (le-of-eq (is-mt j h)) (marks-at (at j h .s) (o j) (o-lt4 p c j P0) .to-le)
+  to-le j h = le-trans (le-of-eq (is-mt j h)) (marks-at (at j h .s) (o j) (o-lt p c j P0) .to-le)
 
   to-one : (j : ℕ) → j < 8 → o j ≢ 0 → markK (o j) (slotK (coordAt e j .k0) (towardOf (coordAt e j .dir))) ≤ 1
-  to-one j h d = le-trans (le-of-eq (is-mt j h)) (marks-at (at j h .s) (o j) (o-lt4 p c j P0) .to-one d)
+  to-one j h d = le-trans (le-of-eq (is-mt j h)) (marks-at (at j h .s) (o j) (o-lt p c j P0) .to-one d)
 
   -- ---- regrets: none is less than that of the offset 0, and that of 2 is greater
   reg-at : (j q : ℕ) (h : j < 8) → o j ≡ q → coordAt e j .regret ≡ regF (at j h .s) q
@@ -270,9 +268,6 @@ module _ (ts : List Float) (p c : ℕ) (P0 : p < 2) (T0 : (j : ℕ) → j < 8 �
   least a b h k (inr x) y =
       ap₂ lt (reg-at a 2 h x) (reg-at b 0 k y)
       ∙ not-true _ (split3 (lt (regF (at a h .s) 0) (regF (at b k .s) 2)) (not (lt (regF (at a h .s) 0) (regF (at b k .s) 0))) (not (lt (regF (at a h .s) 2) (regF (at b k .s) 0))) (all-order (at a h .s) (at b k .s)) .2)
-
-  clash : {b : Bool} → b ≡ true → b ≡ false → ⊥
-  clash p q = subst T (sym p ∙ q) tt
 
   -- where the largest regret is that of the offset 0, every offset is 0
   module _ (E : (j : ℕ) → (o j ≡ 0) ⊎ (o j ≡ 2)) where

@@ -67,6 +67,15 @@ worst-lt e (suc n) h = go (lt (coordAt e (worstTo e n) .regret) (coordAt e n .re
     go true k = h
     go false k = k
 
+-- the parity of the roundings
+pub par-is : (e : List Coord) (n : ℕ) → parTo e n ≡ parK (λ j. coordAt e j .k0) n
+unfolding parTo sumTo
+par-is e zero = refl
+par-is e (suc n) = go (parTo e n) (sumTo (λ j. oddK (coordAt e j .k0)) n) (oddK (coordAt e n .k0)) (par-is e n)
+  where
+    go : (a b x : ℕ) → a ≡ b % 2 → (a + x) % 2 ≡ (b + x) % 2
+    go a b x h = omega arith
+
 module _ (ts : List Float) (p c : ℕ) (P0 : p < 2) (T0 : (j : ℕ) → j < 8 → Target (getD ts j nan)) where
   abbrev pub tJ : ℕ → Float
   tJ j = getD ts j nan
@@ -150,14 +159,6 @@ module _ (ts : List Float) (p c : ℕ) (P0 : p < 2) (T0 : (j : ℕ) → j < 8 �
     where
       go : (pj mj pw mw x y e : ℕ) → x + mj * 4 ≤ pj * 4 + 0 + e → pw * 4 + 0 ≤ y + mw * 4 + e → pj + mw ≤ pw + mj → x ≤ y + (e + e)
       go pj mj pw mw x y e h k l = omega arith
-
-  par-is : (n : ℕ) → parTo eR n ≡ parK kJ n
-  unfolding parTo sumTo
-  par-is zero = refl
-  par-is (suc n) = go (parTo eR n) (sumTo (λ j. oddK (kJ j)) n) (oddK (kJ n)) (par-is n)
-    where
-      go : (a b x : ℕ) → a ≡ b % 2 → (a + x) % 2 ≡ (b + x) % 2
-      go a b x h = omega arith
 
   -- one coordinate: no other whole number is nearer by more than the error
   wK : ℕ
@@ -264,7 +265,7 @@ module _ (ts : List Float) (p c : ℕ) (P0 : p < 2) (T0 : (j : ℕ) → j < 8 �
 
       go : (b : Bool) → (T b → parTo eR 8 ≡ r) → eqb (parTo eR 8) r ≡ b → sumTo (λ j. sqK (oJ j) (slotK (kJ j) (slotOf jW (cond b 2 (towardOf (coordAt eR jW .dir))) j)) (tJ j)) 8 ≤ sumTo (λ j. sqK (oJ j) (k j) (tJ j)) 8 + W3
       go true e q = le-trans (le-of-eq (sum-same (λ j. sqK (oJ j) (slotK (kJ j) (slotOf jW 2 j)) (tJ j)) (λ j. sqK (oJ j) (kJ j) (tJ j)) 8 (λ j l. ap (λ (z : ℤ). sqK (oJ j) z (tJ j)) (off j)))) (base-plain k)
-      go false e q = base-stepped k (λ (x : parK kJ 8 ≡ parK k 8). no-eq (parTo eR 8) r q (par-is 8 ∙ x ∙ h))
+      go false e q = base-stepped k (λ (x : parK kJ 8 ≡ parK k 8). no-eq (parTo eR 8) r q (par-is eR 8 ∙ x ∙ h))
         where
           no-eq : (a b : ℕ) → eqb a b ≡ false → a ≢ b
           no-eq a b q e = subst T (sym (subst (λ (z : ℕ). eqb a z ≡ true) e (eqb-yes a)) ∙ q) tt

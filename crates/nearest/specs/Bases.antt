@@ -11,8 +11,8 @@ use lib.ListN.{getD}
 use lib.Signed.{ltZ}
 use lib.IntN.{ℤ, pos, natAbs}
 use lib.Ieee.{Float, nan, binary64, add, sub}
-use Rattle.float.specs.Value.{one64}
-use Rattle.float.specs.Near.{near-more}
+use Rattle.float.specs.Value.{U}
+use Rattle.float.specs.Near.{Near, near-more}
 use Rattle.rank.specs.Vector.{sq}
 use Rattle.rank.specs.Answers.{markOf}
 use Rattle.search.specs.declared.Coord.{Coord}
@@ -34,7 +34,7 @@ use Rattle.nearest.specs.Under.{Num, Under, near-num, near-under, under-
 use Rattle.nearest.specs.Entries.{ES, SoundB}
 use Rattle.nearest.specs.Shape.{oAt, o-lt, term-le, holds-le, weight-le, row-slots, row-d}
 use Rattle.nearest.specs.Candidate.{Cand, ET, tAt, sqV, cand-stands}
-use Rattle.nearest.specs.Rule.{slot-class}
+use Rattle.nearest.specs.Rule.{slot-class, stepped-shape}
 use Rattle.nearest.specs.Steps.{Row, slot-small, now-cand, step-cand}
 
 -- a candidate that is a member section is a member
@@ -91,9 +91,6 @@ module _ (ts : List Float) (p c : ℕ) (P0 : p < 2) (T0 : (j : ℕ) → j < 8 �
   more : {k : ℕ → ℤ} {cost key : ℕ} {dist : Float} {e : ℕ} → e ≤ ES → Cand ts p c k cost key dist e → Cand ts p c k cost key dist ES
   more h C = record { small = C .small; shape = C .shape; near = near-more ES (C .near) h }
 
-  cand-eq : {k : ℕ → ℤ} {cost cost' key key' : ℕ} {dist dist' : Float} {e : ℕ} → Cand ts p c k cost key dist e → cost' ≡ cost → key' ≡ key → dist' ≡ dist → Cand ts p c k cost' key' dist' e
-  cand-eq {k} {cost} {cost'} {key} {key'} {dist} {dist'} {e} C a b d = subst (λ (z : ℕ). Cand ts p c k z key' dist' e) (sym a) (subst (λ (z : ℕ). Cand ts p c k cost z dist' e) (sym b) (subst (λ (z : Float). Cand ts p c k cost key z e) (sym d) C))
-
   own-cand : Cand ts p c k2 (nowTo eR 0 2 8 .cost) (nowTo eR 0 2 8 .key) (nowTo eR 0 2 8 .dist) (8 * (ET + H))
   own-cand = subst (λ (k : ℕ → ℤ). Cand ts p c k (nowTo eR 0 2 8 .cost) (nowTo eR 0 2 8 .key) (nowTo eR 0 2 8 .dist) (8 * (ET + H))) (both2 0) (now-cand ts p c P0 T0 eR row0 0 2 (lit≤ tt))
 
@@ -127,11 +124,17 @@ module _ (ts : List Float) (p c : ℕ) (P0 : p < 2) (T0 : (j : ℕ) → j < 8 �
   stepped-cand =
       let n = nowTo eR 0 2 8 in
       let f5 = to-lt (coordAt eR jW .dir) in
-      let o = oAt p c jW in
-      cand-eq (more (lit≤ tt) (step-cand ts p c P0 T0 k2 kT jW w8 kT-small kT-off (n .cost) (n .key) (n .dist) (8 * (ET + H)) (lit≤ tt) own-cand))
-      (ap₂ (λ (a b : ℕ). n .cost - a + b) (row0 .slots .w-is jW 2 w8 (lit≤ tt)) (row0 .slots .w-is jW fW w8 f5 ∙ ap (λ (z : ℤ). sq (markK o z)) (sym at-W)))
-      (ap (keySet (n .key) jW) (row0 .slots .rank-is jW fW w8 f5 ∙ ap (markK o) (sym at-W)))
-      (ap₂ (λ (a b : Float). add binary64 (sub binary64 (n .dist) a) b) (row0 .d-is jW 2 w8 (lit≤ tt)) (row0 .d-is jW fW w8 f5 ∙ ap (λ (z : ℤ). sqTo (member o z) (tAt ts jW)) (sym at-W)))
+      let C = more (lit≤ tt) (step-cand ts p c P0 T0 k2 kT jW w8 kT-small kT-off (n .cost) (n .key) (n .dist) (8 * (ET + H)) (lit≤ tt) own-cand) in
+      record {
+        small = C .small;
+        shape = stepped-shape p c eR (row0 .slots);
+        near =
+            subst (λ (d : Float). Near U d (sumTo (λ j. sqV (member (oAt p c j) (kT j)) (tAt ts j)) 8) 0 ES)
+            (sym
+            (ap₂ (λ (a b : Float). add binary64 (sub binary64 (n .dist) a) b) (row0 .d-is jW 2 w8 (lit≤ tt))
+            (row0 .d-is jW fW w8 f5 ∙ ap (λ (z : ℤ). sqTo (member (oAt p c jW) z) (tAt ts jW)) (sym at-W))))
+            (C .near);
+      }
 
   pub base-cand : (r : ℕ) → CandN (bK ts p c P0 T0 r) (baseNow eR r)
   unfolding baseNow

@@ -49,13 +49,13 @@ pub record AllMine (s : Sides) (i1 i2 i3 B1 B2 B3 : ℕ) : Type 0 where
   pub two : Mine (entAt (s .e2) i2) B2
   pub three : Mine (entAt (s .e3) i3) B3
 
-half : {i : ℕ} → i < 128 → i / 64 < 2
+pub half : {i : ℕ} → i < 128 → i / 64 < 2
 half h = omega arith
 
-small : (i : ℕ) → i % 64 < 64
+pub small : (i : ℕ) → i % 64 < 64
 small i = mod-lt i (zero-lt-suc 63)
 
-bit : (i : ℕ) → i % 2 < 2
+pub bit : (i : ℕ) → i % 2 < 2
 bit i = mod-lt i (zero-lt-suc 1)
 
 module _ (g : Tables) (u : Rule) (t : Targets) (p : ℕ) where

@@ -12,6 +12,8 @@ use lib.ListN.{getD}
 use lib.Signed.{ltZ}
 use lib.IntN.{ℤ, pos, _-ℤ_, +ℤ-sucℤ, +ℤ-idr}
 use lib.Ieee.{Float, lt, le}
+use Rattle.laws.specs.Tests.{cond-same}
+use Rattle.rank.specs.Vector.{sq}
 use Rattle.search.specs.declared.Coord.{Coord}
 use Rattle.search.specs.Record.{coordAt, slotK, row}
 use Rattle.search.specs.declared.Closed.{Closed}
@@ -19,13 +21,14 @@ use Rattle.search.specs.declared.Now.{Now}
 use Rattle.search.specs.declared.Best.{Best}
 use Rattle.search.specs.declared.Top.{Top}
 use Rattle.search.specs.Bound.{holds}
-use Rattle.search.specs.Base.{parTo, slotOf, towardOf, nowTo}
+use Rattle.search.specs.Base.{parTo, worstTo, slotOf, towardOf, nowTo, keySet, stepped}
 use Rattle.search.specs.Solve.{otherOf, secondOf, fixOf, topTo, stepOf, movedD, movedC, keyMoved, moveAt, movesTo, keptBase, layerAt, unmet, firstBase, layersTo, solve}
 use Rattle.nearest.specs.Statement.{oddK, sumTo, parK}
 use Rattle.nearest.specs.Sums.{sum-same, sum-set}
 use Rattle.nearest.specs.Ints.{odd-suc}
-use Rattle.nearest.specs.Base.{eqb-no, eqb-yes}
-use Rattle.nearest.specs.Shape.{sum-two}
+use Rattle.nearest.specs.Base.{eqb-no, eqb-yes, par-is, worst-lt}
+use Rattle.nearest.specs.Keys.{markK}
+use Rattle.nearest.specs.Shape.{oAt, Slots, Shape, shape-eq, slot-lt, now-shape, step-shape, two-shape, sum-two}
 
 -- ---- the two largest regrets are two
 abbrev pub TopOk : Top → ℕ → Type 0
@@ -140,14 +143,6 @@ module _ (e : List Coord) where
   abbrev kE : ℕ → ℤ
   kE j = coordAt e j .k0
 
-  par-is : (n : ℕ) → parTo e n ≡ parK kE n
-  unfolding parTo sumTo
-  par-is zero = refl
-  par-is (suc n) = go (parTo e n) (sumTo (λ j. oddK (kE j)) n) (oddK (kE n)) (par-is n)
-    where
-      go : (a b x : ℕ) → a ≡ b % 2 → (a + x) % 2 ≡ (b + x) % 2
-      go a b x h = omega arith
-
   -- the base has the class it is for
   pub slot-class : (j0 want : ℕ) → j0 < 8 → want < 2 → parK (kBase e j0 (fixOf e want j0)) 8 ≡ want
   slot-class j0 want J0 W0 = go (eqb (parTo e 8) want) (eqb→eq (parTo e 8) want) refl
@@ -175,11 +170,11 @@ module _ (e : List Coord) where
       other f g x y a r h k l m n = omega arith
 
       go : (b : Bool) → (T b → parTo e 8 ≡ want) → eqb (parTo e 8) want ≡ b → parK (λ j. slotK (kE j) (slotOf j0 (cond b 2 (towardOf (coordAt e j0 .dir))) j)) 8 ≡ want
-      go true q x = ap (λ (z : ℕ). z % 2) (sum-same (λ j. oddK (slotK (kE j) (slotOf j0 2 j))) (λ j. oddK (kE j)) 8 (λ j l. ap oddK (off j))) ∙ sym (par-is 8) ∙ q tt
+      go true q x = ap (λ (z : ℕ). z % 2) (sum-same (λ j. oddK (slotK (kE j) (slotOf j0 2 j))) (λ j. oddK (kE j)) 8 (λ j l. ap oddK (off j))) ∙ sym (par-is e 8) ∙ q tt
       go false q x = other (sumTo (λ j. oddK (kT j)) 8) (sumTo (λ j. oddK (kE j)) 8) (oddK (kT j0)) (oddK (kE j0)) (parTo e 8) want
           (sum-set (λ j. oddK (kT j)) (λ j. oddK (kE j)) j0 8 J0 (λ j l m. ap oddK (away j m)))
           (ap₂ (λ (a b : ℤ). oddK a + oddK b) at-j0 (sym (+ℤ-idr (kE j0))) ∙ adj-flip (kE j0) (towardOf (coordAt e j0 .dir)) 2 (mid-lt (toward-mid (coordAt e j0 .dir))) (lit≤ tt) (toward-adj (coordAt e j0 .dir)))
-          (par-is 8) (λ (y : parTo e 8 ≡ want). subst T (sym (subst (λ (z : ℕ). eqb (parTo e 8) z ≡ true) y (eqb-yes (parTo e 8))) ∙ x) tt) W0
+          (par-is e 8) (λ (y : parTo e 8 ≡ want). subst T (sym (subst (λ (z : ℕ). eqb (parTo e 8) z ≡ true) y (eqb-yes (parTo e 8))) ∙ x) tt) W0
 
   pub fix-mid : (want j0 : ℕ) → Mid (fixOf e want j0)
   fix-mid want j0 = go (eqb (parTo e 8) want)
@@ -214,6 +209,57 @@ module _ (e : List Coord) (j0 fix i fj l f2 : ℕ) (D0 : i ≢ l) where
       go true y = a
       go false true = b
       go false false = c
+
+-- ---- the shapes of a pair and of the base of a pattern
+module _ (p c : ℕ) (e : List Coord) (R : Slots p c e) where
+  pub moved-shape : (j0 fix i fj l f2 : ℕ) → fix < 5 → i < 8 → fj < 5 → l < 8 → f2 < 5 → i ≢ l
+      → Shape p c (kPair e j0 fix i fj l f2) (movedC (coordAt e i) (coordAt e l) (nowTo e j0 fix 8 .cost) (slotOf j0 fix i) fj (slotOf j0 fix l) f2)
+      (keyMoved (nowTo e j0 fix 8 .key) i (getD (coordAt e i .rank) fj 0) l (getD (coordAt e l .rank) f2 0))
+  moved-shape j0 fix i fj l f2 F0 I0 F1 L0 F2 D0 =
+      shape-eq p c (two-shape p c (kBase e j0 fix) (kPair e j0 fix i fj l f2) i l I0 L0 D0 (pair-off e j0 fix i fj l f2 D0) (now .cost) (now .key) (now-shape p c e R j0 fix F0))
+      (four _ _ _ _ _ _ _ _ (R .w-is i (slotOf j0 fix i) I0 (slot-lt j0 fix i F0)) (R .w-is l (slotOf j0 fix l) L0 (slot-lt j0 fix l F0))
+      (R .w-is i fj I0 F1 ∙ ap (λ (z : ℤ). sq (markK (oAt p c i) z)) (sym at-i)) (R .w-is l f2 L0 F2 ∙ ap (λ (z : ℤ). sq (markK (oAt p c l) z)) (sym at-l)))
+      (ap₂ (λ (x y : ℕ). keyMoved (now .key) i x l y) (R .rank-is i fj I0 F1 ∙ ap (markK (oAt p c i)) (sym at-i)) (R .rank-is l f2 L0 F2 ∙ ap (markK (oAt p c l)) (sym at-l)))
+    where
+      now : Now
+      now = nowTo e j0 fix 8
+
+      at-i : kPair e j0 fix i fj l f2 i ≡ slotK (coordAt e i .k0) fj
+      at-i = pair-i e j0 fix i fj l f2 D0
+
+      at-l : kPair e j0 fix i fj l f2 l ≡ slotK (coordAt e l .k0) f2
+      at-l = pair-l e j0 fix i fj l f2 D0
+
+      four : (x x' y y' u u' v v' : ℕ) → x ≡ x' → y ≡ y' → u ≡ u' → v ≡ v' → nowTo e j0 fix 8 .cost - x - y + u + v ≡ nowTo e j0 fix 8 .cost - x' - y' + u' + v'
+      four x x' y y' u u' v v' p q r s = ap₂ (λ (a b : ℕ). nowTo e j0 fix 8 .cost - a - b + u + v) p q ∙ ap₂ (λ (a b : ℕ). nowTo e j0 fix 8 .cost - x' - y' + a + b) r s
+
+  plain-slot : (i : ℕ) → slotOf 0 2 i ≡ 2
+  plain-slot i = cond-same ℕ (eqb i 0) 2
+
+  abbrev jW : ℕ
+  jW = worstTo e 8
+
+  abbrev to : ℕ
+  to = towardOf (coordAt e jW .dir)
+
+  t5 : to < 5
+  t5 = mid-lt (toward-mid (coordAt e jW .dir))
+
+  w8 : jW < 8
+  w8 = worst-lt e 8 (le-refl 8)
+
+  pub stepped-shape : Shape p c (kBase e jW to) (stepped (coordAt e jW) (nowTo e 0 2 8) jW .cost) (stepped (coordAt e jW) (nowTo e 0 2 8) jW .key)
+  unfolding stepped
+  stepped-shape =
+      shape-eq p c (step-shape p c (kBase e 0 2) (kBase e jW to) jW w8 off (nowTo e 0 2 8 .cost) (nowTo e 0 2 8 .key) (now-shape p c e R 0 2 (lit≤ tt)))
+      (ap₂ (λ (a b : ℕ). nowTo e 0 2 8 .cost - a + b) (R .w-is jW 2 w8 (lit≤ tt) ∙ ap (λ (f : ℕ). sq (markK (oAt p c jW) (slotK (coordAt e jW .k0) f))) (sym (plain-slot jW))) (R .w-is jW to w8 t5 ∙ ap (λ (z : ℤ). sq (markK (oAt p c jW) z)) (sym at-w)))
+      (ap (keySet (nowTo e 0 2 8 .key) jW) (R .rank-is jW to w8 t5 ∙ ap (markK (oAt p c jW)) (sym at-w)))
+    where
+      at-w : kBase e jW to jW ≡ slotK (coordAt e jW .k0) to
+      at-w = ap (λ (b : Bool). slotK (coordAt e jW .k0) (cond b to 2)) (eqb-yes jW)
+
+      off : (j : ℕ) → j < 8 → j ≢ jW → kBase e jW to j ≡ kBase e 0 2 j
+      off j h d = ap (λ (b : Bool). slotK (coordAt e j .k0) (cond b to 2)) (eqb-no j jW d) ∙ ap (slotK (coordAt e j .k0)) (sym (plain-slot j))
 
 -- ---- what is asked of the candidates on a row of records
 pub record Gives (Q : ℕ → Float → Type 0) (want : ℕ) (bound : Closed) (e : List Coord) : Type 0 where

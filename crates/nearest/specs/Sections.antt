@@ -128,7 +128,7 @@ mod3 a b c = one (a + b) c ∙ ap (λ (z : ℕ). (z + c % 2) % 2) (one a b) ∙ 
     drop : (x y : ℕ) → (x % 2 + y) % 2 ≡ (x + y) % 2
     drop x y = omega arith
 
-turn : (r d p : ℕ) → p < 2 → (r + d + (p + r + d) % 2) % 2 ≡ p
+pub turn : (r d p : ℕ) → p < 2 → (r + d + (p + r + d) % 2) % 2 ≡ p
 turn r d p h = omega arith
 
 -- ---- three functions of eight as one of twenty-four

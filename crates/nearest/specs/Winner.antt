@@ -52,6 +52,19 @@ last-at-lt g G p i n h = go (getD (g .nxt) (i % 64 * 16 + n / 2) 0) (p + i / 64 
     go : (x q : ℕ) → x < 64 → q % 2 * 64 + x < 128
     go x q h = omega arith
 
+-- their numbers taken apart
+pub mid-half : (x n : ℕ) → (2 * x + n % 2) / 2 ≡ x
+mid-half x n = let a = mod-lt n (zero-lt-suc 1) in omega arith
+
+pub mid-bit : (x n : ℕ) → (2 * x + n % 2) % 2 ≡ n % 2
+mid-bit x n = let a = mod-lt n (zero-lt-suc 1) in omega arith
+
+pub end-half : (q x : ℕ) → x < 64 → (q % 2 * 64 + x) / 64 ≡ q % 2
+end-half q x h = omega arith
+
+pub end-rest : (q x : ℕ) → x < 64 → (q % 2 * 64 + x) % 64 ≡ x
+end-rest q x h = omega arith
+
 -- ---- a path of three entries
 abbrev sum3 : Entry → Entry → Entry → Float
 sum3 a b c = add binary64 (add binary64 (a .value) (b .value)) (c .value)
@@ -134,18 +147,6 @@ module _ (g : Tables) (t : Targets) (p : ℕ) (P0 : p < 2) (G : GoodTables g) (s
 
       x : ℕ
       x = getD (g .ix) (i % 64 * 16 + n / 2) 0
-
-      mid-half : (x n : ℕ) → (2 * x + n % 2) / 2 ≡ x
-      mid-half x n = let a = mod-lt n (zero-lt-suc 1) in omega arith
-
-      mid-bit : (x n : ℕ) → (2 * x + n % 2) % 2 ≡ n % 2
-      mid-bit x n = let a = mod-lt n (zero-lt-suc 1) in omega arith
-
-      end-half : (q x : ℕ) → x < 64 → (q % 2 * 64 + x) / 64 ≡ q % 2
-      end-half q x h = omega arith
-
-      end-rest : (q x : ℕ) → x < 64 → (q % 2 * 64 + x) % 64 ≡ x
-      end-rest q x h = omega arith
 
       go : (costAt g p s i n ≡ infinity) ⊎ (Good (EndByte g 0 (i % 64)) p (i / 64) (t .t1) (entAt (s .e1) i) × Good (MidByte g (midAt g i n)) p (midAt g i n % 2) (t .t2) (entAt (s .e2) (midAt g i n)) × Good (EndByte g 1 (lastAt g p i n % 64)) p (lastAt g p i n / 64) (t .t3) (entAt (s .e3) (lastAt g p i n)))
           → Answer g t p (winnerOf p s (wayAt g p s i n))
