@@ -9,10 +9,8 @@ use native.Mathlib.Nat.{zero-lt-suc, le-refl}
 use native.Mathlib.Omega.{arith}
 use lib.Dec.{T, ltb, ltb→lt}
 use lib.ListN.{getD, length}
-use lib.Ieee.{Float, nan, binary64, fits, lt}
-use lib.Ieee.Scale.{finite}
+use lib.Ieee.{Float, nan, lt}
 use Rattle.laws.specs.Lists.{tab-at}
-use Rattle.float.specs.Value.{U, magUnits}
 use Rattle.trellis.specs.TrioLaws.{trio-fits}
 use Rattle.tetra.specs.Lattice.{HasWord}
 use Rattle.tetra.specs.Encode.{encodeOf}
@@ -25,16 +23,10 @@ use Rattle.search.specs.Parity.{Targets, parity, nobody, costOf, choose, search
 use Rattle.search.specs.Block.{ruleOf, coordinate, trioOf, targetsOf, pointFrom, winnerFor}
 use Rattle.nearest.specs.Statement.{RuleOk}
 use Rattle.nearest.specs.Sections.{up8, up16, up24}
+use Rattle.members.specs.Accepted.{Accepted}
 use Rattle.members.specs.Sizes.{Target}
 use Rattle.members.specs.Paths.{Through, found-through, first-found}
 use Rattle.members.specs.Point.{winner-word}
-
--- ---- what is accepted: 24 finite doubles of at most a million in size
-pub record Accepted (t : List Float) : Type 0 where
-  pub len : length t ≡ 24
-  pub fit : (j : ℕ) → j < 24 → T (fits binary64 (getD t j nan))
-  pub fin : (j : ℕ) → j < 24 → T (finite (getD t j nan))
-  pub low : (j : ℕ) → j < 24 → magUnits (getD t j nan) ≤ 1000000 * U
 
 -- any setting runs at most the shrinks there are
 rule-ok : (n : ℕ) → RuleOk (ruleOf n)
