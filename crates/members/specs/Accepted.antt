@@ -1,6 +1,6 @@
 -- What the search at one scale is asked for: the 24 quotients of an accepted call, which are finite doubles of at most a million in size.
 -- Assumes nothing.
-use mathlib.Core.Path.{_≡_, refl, sym, ap, _∙_, subst}
+use mathlib.Core.Path.{_≡_, refl, sym, _∙_, subst}
 use mathlib.Core.Bool.{false}
 use mathlib.Core.List.{List}
 use Prim.Native.Nat.{ℕ, _+_, _*_, _≤_, _<_, zero-le}
@@ -39,7 +39,8 @@ pub not-above : (q : Float) → T (fits binary64 q) → T (finite q) → lt mill
 not-above q f i h =
     let a = abs-exactly q f i in
     let s = parts (absOf q) false (a .sign) in
-    go (posUnits (absOf q)) (negUnits (absOf q)) (magUnits (absOf q)) (magUnits million64) (magUnits q) (1000000 * U) (s .0) (s .1) (a .mag) million-units
+    go (posUnits (absOf q)) (negUnits (absOf q)) (magUnits (absOf q)) (magUnits million64) (magUnits q) (1000000 * U) (s .0) (s .1)
+    (a .mag) million-units
     (not-lt-is million64 (absOf q) million-fits (a .fit) tt (a .fin) h)
   where
     go : (p n m w g u : ℕ) → p ≡ m → n ≡ 0 → m ≡ g → w ≡ u → p + 0 ≤ w + n → g ≤ u
@@ -51,7 +52,8 @@ above-not q f i h =
     let s = parts (absOf q) false (a .sign) in
     is-false (lt million64 (absOf q))
     (λ t.
-    go (posUnits (absOf q)) (negUnits (absOf q)) (magUnits (absOf q)) (magUnits million64) (magUnits q) (1000000 * U) (s .0) (s .1) (a .mag) million-units h
+    go (posUnits (absOf q)) (negUnits (absOf q)) (magUnits (absOf q)) (magUnits million64) (magUnits q) (1000000 * U) (s .0) (s .1)
+    (a .mag) million-units h
     (lt-is million64 (absOf q) million-fits (a .fit) tt (a .fin) t))
   where
     go : (p n m w g u : ℕ) → p ≡ m → n ≡ 0 → m ≡ g → w ≡ u → g ≤ u → w + n < p + 0 → ⊥

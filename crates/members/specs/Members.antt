@@ -1,10 +1,10 @@
 -- Demand 2, for samples: at any 24 doubles of at most a million in size, and any setting of the shrinks, the search at one scale finds a path,
 -- and its point has a word; so that word decodes to the point, and the point encodes to the word. For the full coder the theorems are `found`,
 -- `has-word` and `encodes`, for the even profile `found-even`, `has-word-even` and `encodes-even`.
-use mathlib.Core.Path.{_≡_, refl, sym, ap, _∙_, subst}
+use mathlib.Core.Path.{_≡_, refl, sym, subst}
 use mathlib.Core.Bool.{Bool, true, false, not, cond, _&&_, _||_}
 use mathlib.Core.List.{List, [], _∷_, List·Memᴰ, List·Memᴰ·head, List·Memᴰ·tail, List·Memᴰ·not-nil}
-use Prim.Native.Nat.{ℕ, zero, suc, _+_, _*_, _≤_, _<_}
+use Prim.Native.Nat.{ℕ, _+_, _≤_, _<_}
 use native.Mathlib.Nat.{zero-lt-suc, le-refl}
 use native.Mathlib.Omega.{arith}
 use lib.Dec.{T, ltb, ltb→lt}
@@ -45,7 +45,8 @@ module _ (t : List Float) (A : Accepted t) where
   trio-target : (j : ℕ) → j < 24 → Target (getD (trioOf t) j nan)
   trio-target j h =
       let l = trio-fits j h .order-lt in
-      subst Target (sym (tab-at Float nan (λ j. getD t (coordinate j) nan) 24 j h)) (record { fit = A .fit (coordinate j) l; fin = A .fin (coordinate j) l; low = A .low (coordinate j) l })
+      subst Target (sym (tab-at Float nan (λ j. getD t (coordinate j) nan) 24 j h))
+      (record { fit = A .fit (coordinate j) l; fin = A .fin (coordinate j) l; low = A .low (coordinate j) l })
 
   target1 : (j : ℕ) → j < 8 → Target (getD (targetsOf t .t1) j nan)
   target1 j h = subst Target (sym (tab-at Float nan (λ j. getD (trioOf t) j nan) 8 j h)) (trio-target j (up8 h))
@@ -98,7 +99,8 @@ module _ (t : List Float) (A : Accepted t) where
     over-found : (ps : List ℕ) (best : Winner) → best .found ≡ true → searchOver tables u ts best ps .found ≡ true
     unfolding searchOver
     over-found [] best f = f
-    over-found (q ∷ qs) best f = over-found qs (choose best (parity tables u ts q (costOf best))) (choose-found best (parity tables u ts q (costOf best)) f)
+    over-found (q ∷ qs) best f = over-found qs (choose best (parity tables u ts q (costOf best)))
+        (choose-found best (parity tables u ts q (costOf best)) f)
 
     choose-first : (b : Winner) → b .found ≡ true → choose nobody b .found ≡ true
     choose-first b f = subst (λ (c : Bool). (cond (c && true) b nobody) .found ≡ true) (sym f) f
@@ -111,7 +113,8 @@ module _ (t : List Float) (A : Accepted t) where
         none : 0 < 0 → ⊥
         none l = omega arith
     finds (q ∷ qs) l i =
-        over-found qs (choose nobody (parity tables u ts q infinity)) (choose-first (parity tables u ts q infinity) (first-found u (rule-ok n) ts target1 target2 target3 q (i q (List·Memᴰ·head refl))))
+        over-found qs (choose nobody (parity tables u ts q infinity))
+        (choose-first (parity tables u ts q infinity) (first-found u (rule-ok n) ts target1 target2 target3 q (i q (List·Memᴰ·head refl))))
 
     pub point-has-word : (ps : List ℕ) → 0 < length ps → ((q : ℕ) → List·Memᴰ q ps → q < 2) → HasWord (pointFrom (winnerFor ps n t))
     unfolding search
@@ -132,7 +135,8 @@ pub has-word : (t : List Float) → Accepted t → (n : ℕ) → HasWord (pointF
 has-word t A n = point-has-word t A n bothParities (zero-lt-suc 1) both-lt
 
 -- the point is accepted, with a word that decodes to it
-pub encodes : (t : List Float) → Accepted t → (n : ℕ) → words.Accepted (pointFrom (winnerFor bothParities n t)) (encodeOf (pointFrom (winnerFor bothParities n t)))
+pub encodes : (t : List Float) → Accepted t → (n : ℕ)
+    → words.Accepted (pointFrom (winnerFor bothParities n t)) (encodeOf (pointFrom (winnerFor bothParities n t)))
 encodes t A n = words.accepts (pointFrom (winnerFor bothParities n t)) (has-word t A n)
 
 -- ---- the even profile
@@ -146,5 +150,6 @@ found-even t A n = finds t A n (0 ∷ []) (zero-lt-suc 0) only-lt
 pub has-word-even : (t : List Float) → Accepted t → (n : ℕ) → HasWord (pointFrom (winnerFor (0 ∷ []) n t))
 has-word-even t A n = point-has-word t A n (0 ∷ []) (zero-lt-suc 0) only-lt
 
-pub encodes-even : (t : List Float) → Accepted t → (n : ℕ) → words.Accepted (pointFrom (winnerFor (0 ∷ []) n t)) (encodeOf (pointFrom (winnerFor (0 ∷ []) n t)))
+pub encodes-even : (t : List Float) → Accepted t → (n : ℕ)
+    → words.Accepted (pointFrom (winnerFor (0 ∷ []) n t)) (encodeOf (pointFrom (winnerFor (0 ∷ []) n t)))
 encodes-even t A n = words.accepts (pointFrom (winnerFor (0 ∷ []) n t)) (has-word-even t A n)

@@ -1,11 +1,10 @@
 -- Three members along a path of the trellis, of classes that add up to the parity, are a lattice point that has a word.
-use mathlib.Core.Path.{_≡_, refl, sym, ap, ap₂, _∙_, subst}
-use mathlib.Core.Bool.{Bool}
+use mathlib.Core.Path.{_≡_, sym, ap, ap₂, _∙_, subst}
 use mathlib.Core.List.{List, _++_}
-use Prim.Native.Nat.{ℕ, suc, _+_, _-_, _*_, _/_, _%_, _^_, _≤_, _<_}
+use Prim.Native.Nat.{ℕ, _+_, _-_, _*_, _/_, _%_, _^_, _≤_, _<_}
 use native.Mathlib.Nat.{mod-lt, zero-lt-suc, mod-eq-of-lt}
 use native.Mathlib.Omega.{arith}
-use lib.Dec.{T, eqb, eqb→eq}
+use lib.Dec.{T}
 use lib.ListN.{getD, length, take, drop}
 use lib.Seq.{ext-getD}
 use lib.IntN.{ℤ, pos}
@@ -22,7 +21,7 @@ use Rattle.trellis.specs.Code.{wordOf, columns, label}
 use Rattle.trellis.specs.Code as code
 use Rattle.trellis.specs.CodeLaws.{word-lt, bytes-even}
 use Rattle.trellis.specs.Tables.{prefixes, middles, nexts, suffixes}
-use Rattle.trellis.specs.Trellis.{prefixOf, middleOf, nextOf, suffixOf, path, s8Of, b1Of, b2Of, b3Of}
+use Rattle.trellis.specs.Trellis.{prefixOf, middleOf, nextOf, suffixOf, s8Of, b1Of, b2Of, b3Of}
 use Rattle.trellis.specs.Path.{path-at, first-at, second-at, third-at, prefix-lt, middle-lt, suffix-lt, next-lt}
 use Rattle.trellis.specs.Back.{label-parts}
 use Rattle.trellis.specs.TrioLaws.{trio-fits}
@@ -39,7 +38,6 @@ use Rattle.search.specs.TableLaws.{entry-byte}
 use Rattle.search.specs.Entries.{sectionAt}
 use Rattle.search.specs.Join.{midAt, lastAt}
 use Rattle.search.specs.Block as block
-use Rattle.nearest.specs.Shape.{oAt}
 use Rattle.nearest.specs.Sections.{bit-a, bit-b, bit-c, up8, up16, up24, all24, turn, glue, glue1, glue2, glue3}
 use Rattle.nearest.specs.Winner.{mid-half, mid-bit, end-half, end-rest}
 use Rattle.nearest.specs.TableFacts.{prefix-read, middle-read, next-read, suffix-read}
@@ -124,13 +122,16 @@ module _ (p : ℕ) (P0 : p < 2) (e1 e2 e3 : Entry) (H : Through p e1 e2 e3) wher
 
   -- so each has an even number of set bits
   even1 : weight 8 (e1 .byte) % 2 ≡ 0
-  even1 = ap (λ (n : ℕ). n % 2) (weight-same 8 (e1 .byte) ∙ ap (code.weight 8) (sym (first-at x ∙ ap₂ prefixOf (parts .0) (parts .1) ∙ path1))) ∙ bytes-even x .0
+  even1 = ap (λ (n : ℕ). n % 2) (weight-same 8 (e1 .byte)
+      ∙ ap (code.weight 8) (sym (first-at x ∙ ap₂ prefixOf (parts .0) (parts .1) ∙ path1))) ∙ bytes-even x .0
 
   even2 : weight 8 (e2 .byte) % 2 ≡ 0
-  even2 = ap (λ (n : ℕ). n % 2) (weight-same 8 (e2 .byte) ∙ ap (code.weight 8) (sym (second-at x ∙ ap₂ middleOf (parts .0) (parts .2) ∙ path2))) ∙ bytes-even x .1
+  even2 = ap (λ (n : ℕ). n % 2) (weight-same 8 (e2 .byte)
+      ∙ ap (code.weight 8) (sym (second-at x ∙ ap₂ middleOf (parts .0) (parts .2) ∙ path2))) ∙ bytes-even x .1
 
   even3 : weight 8 (e3 .byte) % 2 ≡ 0
-  even3 = ap (λ (n : ℕ). n % 2) (weight-same 8 (e3 .byte) ∙ ap (code.weight 8) (sym (third-at x ∙ ap₂ suffixOf (ap₂ nextOf (parts .0) (parts .2)) (parts .3) ∙ path3))) ∙ bytes-even x .2
+  even3 = ap (λ (n : ℕ). n % 2) (weight-same 8 (e3 .byte)
+      ∙ ap (code.weight 8) (sym (third-at x ∙ ap₂ suffixOf (ap₂ nextOf (parts .0) (parts .2)) (parts .3) ∙ path3))) ∙ bytes-even x .2
 
   -- ---- the three rows
   abbrev v1 : List ℕ
@@ -188,7 +189,8 @@ module _ (p : ℕ) (P0 : p < 2) (e1 e2 e3 : Entry) (H : Through p e1 e2 e3) wher
   class2 = member-class p (e2 .byte) (midAt tables (H .i) (H .n) % 2) (tables .mixed) (e2 .key) P0 c2-lt even2 low2 (H .two .good .is) ∙ mid-class
 
   class3' : class v3 ≡ lastAt tables p (H .i) (H .n) / 64
-  class3' = member-class p (e3 .byte) (lastAt tables p (H .i) (H .n) / 64) (classOf tables (lastAt tables p (H .i) (H .n) / 64)) (e3 .key) P0 c3-lt even3 low3 (H .three .good .is)
+  class3' = member-class p (e3 .byte) (lastAt tables p (H .i) (H .n) / 64) (classOf tables (lastAt tables p (H .i) (H .n) / 64))
+      (e3 .key) P0 c3-lt even3 low3 (H .three .good .is)
 
   -- ---- the point in trio order
   abbrev ranks : List ℕ
@@ -243,7 +245,8 @@ module _ (p : ℕ) (P0 : p < 2) (e1 e2 e3 : Entry) (H : Through p e1 e2 e3) wher
   sum : modZ (section.kSum y) 2 ≡ p
   sum =
       sum-classes p y (natural-length z) (subst (λ (t : List ℤ). T (section.uniform p t)) (sym back) all-p) codeword first second third
-      ∙ ap₂ (λ (a b : ℕ). (a + b) % 2) (ap₂ (λ (a b : ℕ). a + b) (ap class sec0 ∙ class1) (ap class sec1 ∙ class2)) (ap class sec2 ∙ class3' ∙ last-class)
+      ∙ ap₂ (λ (a b : ℕ). (a + b) % 2) (ap₂ (λ (a b : ℕ). a + b) (ap class sec0 ∙ class1) (ap class sec1 ∙ class2))
+      (ap class sec2 ∙ class3' ∙ last-class)
       ∙ turn r1 r2 p P0
 
   natural-word : HasWord (natural z)
@@ -266,13 +269,16 @@ module _ (p : ℕ) (P0 : p < 2) (e1 e2 e3 : Entry) (H : Through p e1 e2 e3) wher
   trio-is =
       all24 (λ j. getD z j (pos 0) ≡ three j)
       (λ j h. point-at p word ranks j (up8 h)
-      ∙ coordinate-is j (e1 .byte) (e1 .key) (bitAt word j) (getD ranks j 0) (bit-a (e1 .byte) (e2 .byte) (e3 .byte) c1-lt j h) h (append-at ℕ 0 v1 (v2 ++ v3) j h)
+      ∙ coordinate-is j (e1 .byte) (e1 .key) (bitAt word j) (getD ranks j 0) (bit-a (e1 .byte) (e2 .byte) (e3 .byte) c1-lt j h) h
+      (append-at ℕ 0 v1 (v2 ++ v3) j h)
       ∙ sym (glue1 (sectionAt p (e1 .byte) (e1 .key)) (sectionAt p (e2 .byte) (e2 .key)) (sectionAt p (e3 .byte) (e3 .key)) j h))
       (λ j h. point-at p word ranks (8 + j) (up16 h)
-      ∙ coordinate-is j (e2 .byte) (e2 .key) (bitAt word (8 + j)) (getD ranks (8 + j) 0) (bit-b (e1 .byte) (e2 .byte) (e3 .byte) c1-lt c2-lt j h) h (middle-at j h)
+      ∙ coordinate-is j (e2 .byte) (e2 .key) (bitAt word (8 + j)) (getD ranks (8 + j) 0)
+      (bit-b (e1 .byte) (e2 .byte) (e3 .byte) c1-lt c2-lt j h) h (middle-at j h)
       ∙ sym (glue2 (sectionAt p (e1 .byte) (e1 .key)) (sectionAt p (e2 .byte) (e2 .key)) (sectionAt p (e3 .byte) (e3 .key)) j h))
       (λ j h. point-at p word ranks (16 + j) (up24 h)
-      ∙ coordinate-is j (e3 .byte) (e3 .key) (bitAt word (16 + j)) (getD ranks (16 + j) 0) (bit-c (e1 .byte) (e2 .byte) (e3 .byte) c1-lt c2-lt j h) h (last-at j h)
+      ∙ coordinate-is j (e3 .byte) (e3 .key) (bitAt word (16 + j)) (getD ranks (16 + j) 0)
+      (bit-c (e1 .byte) (e2 .byte) (e3 .byte) c1-lt c2-lt j h) h (last-at j h)
       ∙ sym (glue3 (sectionAt p (e1 .byte) (e1 .key)) (sectionAt p (e2 .byte) (e2 .key)) (sectionAt p (e3 .byte) (e3 .key)) j h))
     where
       past : (m j : ℕ) → m ≤ m + j

@@ -9,8 +9,7 @@ use native.Mathlib.Omega.{arith}
 use native.Mathlib.Decide.{ℕ-discrete}
 use lib.Dec.{T, eqb, eqb→eq, eqb-refl, lit≤}
 use lib.ListN.{getD}
-use lib.Signed.{ltZ}
-use lib.IntN.{ℤ, pos, ℤ-discrete, +ℤ-idr, +ℤ-one, -ℤ-one}
+use lib.IntN.{ℤ, ℤ-discrete, +ℤ-idr}
 use lib.Ieee.{Float, nan, lt}
 use Rattle.float.specs.Value.{posUnits, negUnits, U, one64}
 use Rattle.float.specs.Near.{Near}
@@ -22,7 +21,7 @@ use Rattle.search.specs.Record.{coordAt, noCoord, coordOf, slotK, row, shrinks,
 use Rattle.search.specs.Base.{slotOf, towardOf, parTo, worstTo}
 use Rattle.nearest.specs.Statement.{oddK, sumTo, parK}
 use Rattle.nearest.specs.Sums.{strong, stepped-up, sum-le, sum-same, sum-set, odd-le}
-use Rattle.nearest.specs.Ints.{gapK, far, odd-suc, odd-pred}
+use Rattle.nearest.specs.Ints.{gapK, far}
 use Rattle.nearest.specs.Coordinate.{Target, Rounds, E1, rounds}
 
 -- a Boolean test of numbers, decided

@@ -3,21 +3,20 @@ use mathlib.Core.Path.{_≡_, refl, sym, ap, ap₂, _∙_, subst, fun-ext}
 use mathlib.Core.Logic.{_≢_}
 use mathlib.Core.Bool.{Bool, true, false, cond}
 use mathlib.Core.List.{List}
-use Prim.Native.Nat.{ℕ, _+_, _-_, _*_, _≤_, _<_}
+use Prim.Native.Nat.{ℕ, _+_, _*_, _≤_, _<_}
 use native.Mathlib.Nat.{le-refl, le-trans, le-of-eq}
 use native.Mathlib.Omega.{arith}
 use lib.Dec.{eqb, lit≤}
-use lib.ListN.{getD}
 use lib.Signed.{ltZ}
 use lib.IntN.{ℤ, pos, natAbs}
-use lib.Ieee.{Float, nan, binary64, add, sub}
+use lib.Ieee.{Float, binary64, add, sub}
 use Rattle.float.specs.Value.{U}
 use Rattle.float.specs.Near.{Near, near-more}
 use Rattle.rank.specs.Vector.{sq}
 use Rattle.rank.specs.Answers.{markOf}
 use Rattle.search.specs.declared.Coord.{Coord}
 use Rattle.search.specs.Record.{coordAt, row, slotK, sqTo, member}
-use Rattle.search.specs.Base.{slotOf, towardOf, nowTo, keySet, stepped, baseNow, parTo, worstTo, baseBest}
+use Rattle.search.specs.Base.{slotOf, towardOf, nowTo, stepped, baseNow, parTo, worstTo, baseBest}
 use Rattle.search.specs.Entries.{rankAt}
 use Rattle.search.specs.declared.Now.{Now}
 use Rattle.search.specs.declared.Closed.{Closed}
@@ -27,7 +26,7 @@ use Rattle.nearest.specs.Statement.{sumTo, RowOf}
 use Rattle.nearest.specs.Sums.{sum-same}
 use Rattle.nearest.specs.Ints.{gap-is, gapK}
 use Rattle.nearest.specs.Coordinate.{Target}
-use Rattle.nearest.specs.Base.{row-at, facts, worst-lt, bK, base-best, eqb-yes, eqb-no, W3}
+use Rattle.nearest.specs.Base.{facts, worst-lt, bK, base-best, eqb-yes, eqb-no, W3}
 use Rattle.nearest.specs.Operations.{H}
 use Rattle.nearest.specs.Lattice.{Sec, Same, dist8, M}
 use Rattle.nearest.specs.Under.{Num, Under, near-num, near-under, under-near}

@@ -1,30 +1,27 @@
 -- A candidate is eight whole numbers k; its cost, key and distance say what they are; if a bound holds of it, its value stands for the
 -- section of its key.
-use mathlib.Core.Path.{_≡_, refl, sym, ap, ap₂, _∙_, subst}
-use mathlib.Core.Bool.{Bool, true, false, not, _&&_, _||_}
+use mathlib.Core.Path.{_≡_, refl, sym, ap, ap₂, subst}
+use mathlib.Core.Bool.{true}
 use mathlib.Core.List.{List}
-use Prim.Native.Nat.{ℕ, zero, suc, _+_, _*_, _/_, _^_, _≤_, _<_, zero-le}
-use native.Mathlib.Nat.{le-refl, le-trans, le-of-eq, le-of-lt, lt-of-lt-of-le, lt-of-le-of-lt, mul-le-mul, mul-le-mul-left, mul-le-mul-right, add-le-add, mod-lt, zero-lt-suc, suc-mul}
+use Prim.Native.Nat.{ℕ, zero, suc, _+_, _*_, _^_, _≤_, _<_, zero-le}
+use native.Mathlib.Nat.{le-refl, le-trans, le-of-eq, le-of-lt, lt-of-lt-of-le, lt-of-le-of-lt, mul-le-mul, mul-le-mul-left, mul-le-mul-right, add-le-add, suc-mul}
 use native.Mathlib.Omega.{arith}
-use lib.Dec.{T, ltb, leb, eqb, ltb→lt, leb→le, nleb→lt, eqb→eq, lit≤}
+use lib.Dec.{lit≤}
 use lib.ListN.{getD}
-use lib.IntN.{ℤ, pos, negsuc, natAbs}
+use lib.IntN.{ℤ, natAbs}
 use lib.Ieee.{Float, nan, binary64, sub, ofInt}
 use Rattle.float.specs.Value.{magUnits, posUnits, negUnits, U}
 use Rattle.float.specs.Error.{halfUlp}
 use Rattle.float.specs.Near.{Near, near-self, near-more, near-mag-plain, near-zero}
 use Rattle.float.specs.Arithmetic.{near-sub, near-square}
-use Rattle.laws.specs.Whole.{gap, posPart, negPart}
+use Rattle.laws.specs.Whole.{gap}
 use Rattle.float.specs.Exact.{ofInt-whole}
 use Rattle.float.specs.Margin.{apart, apart-le}
 use Rattle.float.specs.Distance.{coordGap}
-use Rattle.rank.specs.Coord.{valOf}
-use Rattle.rank.specs.Vector.{sq}
-use Rattle.search.specs.Record.{sqTo, member, bitAt}
-use Rattle.search.specs.Entries.{distTo, rankAt, sectionAt}
+use Rattle.search.specs.Record.{sqTo, member}
+use Rattle.search.specs.Entries.{distTo, sectionAt}
 use Rattle.search.specs.declared.Closed.{Closed}
-use Rattle.search.specs.Bound.{holds, lexOf}
-use Rattle.nearest.specs.Keys.{markK}
+use Rattle.search.specs.Bound.{holds}
 use Rattle.nearest.specs.Shape.{Shape, member-abs, oAt, o-lt, shape-at}
 use Rattle.nearest.specs.Statement.{sumTo, parK}
 use Rattle.nearest.specs.Sums.{sum-same}

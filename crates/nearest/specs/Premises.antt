@@ -16,16 +16,14 @@ use Rattle.float.specs.Value.{magUnits, U}
 use Rattle.float.specs.Error.{halfUlp}
 use Rattle.float.specs.Arithmetic.{mul-rounded}
 use Rattle.float.specs.Near.{near-more}
-use Rattle.laws.specs.Lists.{tab-at}
 use Rattle.rank.specs.Coord.{valOf}
 use Rattle.laws.specs.Tests.{upto, below, split3}
-use Rattle.rank.specs.Vector.{sq}
 use Rattle.search.specs.Tables.{Tables, classOf, endByte, fallbackAt}
 use Rattle.search.specs.Entries.{Rule, rankAt, sectionAt, fallback, endStart, midStart}
 use Rattle.search.specs.Parity.{Targets, search}
 use Rattle.search.specs.declared.Coord.{Coord}
-use Rattle.search.specs.Record.{noCoord, coordAt, coordOf, shrinks, row, bitAt, slotK, member, sqTo}
-use Rattle.nearest.specs.Keys.{markK, kAt, val-is, nib-lt}
+use Rattle.search.specs.Record.{coordOf, shrinks, row}
+use Rattle.nearest.specs.Keys.{kAt, val-is, nib-lt}
 use Rattle.nearest.specs.Statement.{parK, RowOf, RuleOk}
 use Rattle.nearest.specs.Coordinate.{Target, rounded-lt}
 use Rattle.nearest.specs.Operations.{H}

@@ -41,9 +41,11 @@ top-ok e zero = go (lt (coordAt e 0 .regret) (coordAt e 1 .regret))
     go : (b : Bool) → TopOk (cond b (record { j0 = 1; j1 = 0 }) (record { j0 = 0; j1 = 1 })) (0 + 2)
     go true = (omega arith, omega arith, omega arith)
     go false = (omega arith, omega arith, omega arith)
-top-ok e (suc n) = go (top-ok e n) (lt (coordAt e (topTo e n .j0) .regret) (coordAt e (n + 2) .regret)) (lt (coordAt e (topTo e n .j1) .regret) (coordAt e (n + 2) .regret))
+top-ok e (suc n) = go (top-ok e n) (lt (coordAt e (topTo e n .j0) .regret) (coordAt e (n + 2) .regret))
+    (lt (coordAt e (topTo e n .j1) .regret) (coordAt e (n + 2) .regret))
   where
-    go : TopOk (topTo e n) (n + 2) → (a b : Bool) → TopOk (cond a (record { j0 = n + 2; j1 = topTo e n .j0 }) (cond b (record { j0 = topTo e n .j0; j1 = n + 2 }) (topTo e n))) (suc n + 2)
+    go : TopOk (topTo e n) (n + 2) → (a b : Bool)
+        → TopOk (cond a (record { j0 = n + 2; j1 = topTo e n .j0 }) (cond b (record { j0 = topTo e n .j0; j1 = n + 2 }) (topTo e n))) (suc n + 2)
     go t true b = let x = t .0 in (omega arith, omega arith, omega arith)
     go t false true = let x = t .0 in (omega arith, omega arith, omega arith)
     go t false false = let x = t .0 in let y = t .1 in (omega arith, omega arith, t .2)
@@ -63,7 +65,8 @@ slot-flip k (suc (suc (suc (suc f)))) h = absurd (none h)
     none h = omega arith
 
 pub adj-flip : (k : ℤ) (f g : ℕ) → f < 5 → g < 5 → Adj f g → oddK (slotK k f) + oddK (slotK k g) ≡ 1
-adj-flip k f g a b (inl q) = subst (λ (z : ℕ). oddK (slotK k f) + oddK (slotK k z) ≡ 1) q (swap (oddK (slotK k (suc f))) (oddK (slotK k f)) (slot-flip k f (le4 f g q b)))
+adj-flip k f g a b (inl q) = subst
+    (λ (z : ℕ). oddK (slotK k f) + oddK (slotK k z) ≡ 1) q (swap (oddK (slotK k (suc f))) (oddK (slotK k f)) (slot-flip k f (le4 f g q b)))
   where
     swap : (a b : ℕ) → a + b ≡ 1 → b + a ≡ 1
     swap a b h = omega arith
@@ -169,11 +172,15 @@ module _ (e : List Coord) where
       other : (f g x y a r : ℕ) → f + y ≡ g + x → x + y ≡ 1 → a ≡ g % 2 → a ≢ r → r < 2 → f % 2 ≡ r
       other f g x y a r h k l m n = omega arith
 
-      go : (b : Bool) → (T b → parTo e 8 ≡ want) → eqb (parTo e 8) want ≡ b → parK (λ j. slotK (kE j) (slotOf j0 (cond b 2 (towardOf (coordAt e j0 .dir))) j)) 8 ≡ want
-      go true q x = ap (λ (z : ℕ). z % 2) (sum-same (λ j. oddK (slotK (kE j) (slotOf j0 2 j))) (λ j. oddK (kE j)) 8 (λ j l. ap oddK (off j))) ∙ sym (par-is e 8) ∙ q tt
+      go : (b : Bool) → (T b → parTo e 8 ≡ want) → eqb (parTo e 8) want ≡ b
+          → parK (λ j. slotK (kE j) (slotOf j0 (cond b 2 (towardOf (coordAt e j0 .dir))) j)) 8 ≡ want
+      go true q x = ap (λ (z : ℕ). z % 2)
+          (sum-same (λ j. oddK (slotK (kE j) (slotOf j0 2 j))) (λ j. oddK (kE j)) 8 (λ j l. ap oddK (off j))) ∙ sym (par-is e 8) ∙ q tt
       go false q x = other (sumTo (λ j. oddK (kT j)) 8) (sumTo (λ j. oddK (kE j)) 8) (oddK (kT j0)) (oddK (kE j0)) (parTo e 8) want
           (sum-set (λ j. oddK (kT j)) (λ j. oddK (kE j)) j0 8 J0 (λ j l m. ap oddK (away j m)))
-          (ap₂ (λ (a b : ℤ). oddK a + oddK b) at-j0 (sym (+ℤ-idr (kE j0))) ∙ adj-flip (kE j0) (towardOf (coordAt e j0 .dir)) 2 (mid-lt (toward-mid (coordAt e j0 .dir))) (lit≤ tt) (toward-adj (coordAt e j0 .dir)))
+          (ap₂ (λ (a b : ℤ). oddK a + oddK b) at-j0 (sym (+ℤ-idr (kE j0)))
+          ∙ adj-flip (kE j0) (towardOf (coordAt e j0 .dir)) 2 (mid-lt (toward-mid (coordAt e j0 .dir))) (lit≤ tt)
+          (toward-adj (coordAt e j0 .dir)))
           (par-is e 8) (λ (y : parTo e 8 ≡ want). subst T (sym (subst (λ (z : ℕ). eqb (parTo e 8) z ≡ true) y (eqb-yes (parTo e 8))) ∙ x) tt) W0
 
   pub fix-mid : (want j0 : ℕ) → Mid (fixOf e want j0)
@@ -194,11 +201,13 @@ module _ (e : List Coord) (j0 fix i fj l f2 : ℕ) (D0 : i ≢ l) where
 
   pub pair-l : kM l ≡ slotK (coordAt e l .k0) f2
   unfolding kPair
-  pair-l = ap (λ (t : Bool). cond t (slotK (coordAt e i .k0) fj) (cond (eqb l l) (slotK (coordAt e l .k0) f2) (kBase e j0 fix l))) (eqb-no l i (λ (q : l ≡ i). D0 (sym q))) ∙ ap (λ (t : Bool). cond t (slotK (coordAt e l .k0) f2) (kBase e j0 fix l)) (eqb-yes l)
+  pair-l = ap (λ (t : Bool). cond t (slotK (coordAt e i .k0) fj) (cond (eqb l l) (slotK (coordAt e l .k0) f2) (kBase e j0 fix l)))
+      (eqb-no l i (λ (q : l ≡ i). D0 (sym q))) ∙ ap (λ (t : Bool). cond t (slotK (coordAt e l .k0) f2) (kBase e j0 fix l)) (eqb-yes l)
 
   pub pair-off : (j : ℕ) → j < 8 → j ≢ i → j ≢ l → kM j ≡ kBase e j0 fix j
   unfolding kPair
-  pair-off j h x y = ap (λ (t : Bool). cond t (slotK (coordAt e i .k0) fj) (cond (eqb j l) (slotK (coordAt e l .k0) f2) (kBase e j0 fix j))) (eqb-no j i x) ∙ ap (λ (t : Bool). cond t (slotK (coordAt e l .k0) f2) (kBase e j0 fix j)) (eqb-no j l y)
+  pair-off j h x y = ap (λ (t : Bool). cond t (slotK (coordAt e i .k0) fj) (cond (eqb j l) (slotK (coordAt e l .k0) f2) (kBase e j0 fix j)))
+      (eqb-no j i x) ∙ ap (λ (t : Bool). cond t (slotK (coordAt e l .k0) f2) (kBase e j0 fix j)) (eqb-no j l y)
 
   -- what each of its whole numbers has
   pub pair-each : (P : ℤ → Type 0) → P (slotK (coordAt e i .k0) fj) → P (slotK (coordAt e l .k0) f2) → (j : ℕ) → P (kBase e j0 fix j) → P (kM j)
@@ -216,10 +225,13 @@ module _ (p c : ℕ) (e : List Coord) (R : Slots p c e) where
       → Shape p c (kPair e j0 fix i fj l f2) (movedC (coordAt e i) (coordAt e l) (nowTo e j0 fix 8 .cost) (slotOf j0 fix i) fj (slotOf j0 fix l) f2)
       (keyMoved (nowTo e j0 fix 8 .key) i (getD (coordAt e i .rank) fj 0) l (getD (coordAt e l .rank) f2 0))
   moved-shape j0 fix i fj l f2 F0 I0 F1 L0 F2 D0 =
-      shape-eq p c (two-shape p c (kBase e j0 fix) (kPair e j0 fix i fj l f2) i l I0 L0 D0 (pair-off e j0 fix i fj l f2 D0) (now .cost) (now .key) (now-shape p c e R j0 fix F0))
+      shape-eq p c (two-shape p c (kBase e j0 fix) (kPair e j0 fix i fj l f2) i l I0 L0 D0 (pair-off e j0 fix i fj l f2 D0) (now .cost)
+      (now .key) (now-shape p c e R j0 fix F0))
       (four _ _ _ _ _ _ _ _ (R .w-is i (slotOf j0 fix i) I0 (slot-lt j0 fix i F0)) (R .w-is l (slotOf j0 fix l) L0 (slot-lt j0 fix l F0))
-      (R .w-is i fj I0 F1 ∙ ap (λ (z : ℤ). sq (markK (oAt p c i) z)) (sym at-i)) (R .w-is l f2 L0 F2 ∙ ap (λ (z : ℤ). sq (markK (oAt p c l) z)) (sym at-l)))
-      (ap₂ (λ (x y : ℕ). keyMoved (now .key) i x l y) (R .rank-is i fj I0 F1 ∙ ap (markK (oAt p c i)) (sym at-i)) (R .rank-is l f2 L0 F2 ∙ ap (markK (oAt p c l)) (sym at-l)))
+      (R .w-is i fj I0 F1 ∙ ap (λ (z : ℤ). sq (markK (oAt p c i) z)) (sym at-i))
+      (R .w-is l f2 L0 F2 ∙ ap (λ (z : ℤ). sq (markK (oAt p c l) z)) (sym at-l)))
+      (ap₂ (λ (x y : ℕ). keyMoved (now .key) i x l y) (R .rank-is i fj I0 F1 ∙ ap (markK (oAt p c i)) (sym at-i))
+      (R .rank-is l f2 L0 F2 ∙ ap (markK (oAt p c l)) (sym at-l)))
     where
       now : Now
       now = nowTo e j0 fix 8
@@ -230,8 +242,10 @@ module _ (p c : ℕ) (e : List Coord) (R : Slots p c e) where
       at-l : kPair e j0 fix i fj l f2 l ≡ slotK (coordAt e l .k0) f2
       at-l = pair-l e j0 fix i fj l f2 D0
 
-      four : (x x' y y' u u' v v' : ℕ) → x ≡ x' → y ≡ y' → u ≡ u' → v ≡ v' → nowTo e j0 fix 8 .cost - x - y + u + v ≡ nowTo e j0 fix 8 .cost - x' - y' + u' + v'
-      four x x' y y' u u' v v' p q r s = ap₂ (λ (a b : ℕ). nowTo e j0 fix 8 .cost - a - b + u + v) p q ∙ ap₂ (λ (a b : ℕ). nowTo e j0 fix 8 .cost - x' - y' + a + b) r s
+      four : (x x' y y' u u' v v' : ℕ) → x ≡ x' → y ≡ y' → u ≡ u' → v ≡ v' → nowTo e j0 fix 8 .cost - x - y + u + v
+          ≡ nowTo e j0 fix 8 .cost - x' - y' + u' + v'
+      four x x' y y' u u' v v' p q r s =
+          ap₂ (λ (a b : ℕ). nowTo e j0 fix 8 .cost - a - b + u + v) p q ∙ ap₂ (λ (a b : ℕ). nowTo e j0 fix 8 .cost - x' - y' + a + b) r s
 
   plain-slot : (i : ℕ) → slotOf 0 2 i ≡ 2
   plain-slot i = cond-same ℕ (eqb i 0) 2
@@ -251,8 +265,11 @@ module _ (p c : ℕ) (e : List Coord) (R : Slots p c e) where
   pub stepped-shape : Shape p c (kBase e jW to) (stepped (coordAt e jW) (nowTo e 0 2 8) jW .cost) (stepped (coordAt e jW) (nowTo e 0 2 8) jW .key)
   unfolding stepped
   stepped-shape =
-      shape-eq p c (step-shape p c (kBase e 0 2) (kBase e jW to) jW w8 off (nowTo e 0 2 8 .cost) (nowTo e 0 2 8 .key) (now-shape p c e R 0 2 (lit≤ tt)))
-      (ap₂ (λ (a b : ℕ). nowTo e 0 2 8 .cost - a + b) (R .w-is jW 2 w8 (lit≤ tt) ∙ ap (λ (f : ℕ). sq (markK (oAt p c jW) (slotK (coordAt e jW .k0) f))) (sym (plain-slot jW))) (R .w-is jW to w8 t5 ∙ ap (λ (z : ℤ). sq (markK (oAt p c jW) z)) (sym at-w)))
+      shape-eq p c (step-shape p c (kBase e 0 2) (kBase e jW to) jW w8 off (nowTo e 0 2 8 .cost) (nowTo e 0 2 8 .key)
+      (now-shape p c e R 0 2 (lit≤ tt)))
+      (ap₂ (λ (a b : ℕ). nowTo e 0 2 8 .cost - a + b)
+      (R .w-is jW 2 w8 (lit≤ tt) ∙ ap (λ (f : ℕ). sq (markK (oAt p c jW) (slotK (coordAt e jW .k0) f))) (sym (plain-slot jW)))
+      (R .w-is jW to w8 t5 ∙ ap (λ (z : ℤ). sq (markK (oAt p c jW) z)) (sym at-w)))
       (ap (keySet (nowTo e 0 2 8 .key) jW) (R .rank-is jW to w8 t5 ∙ ap (markK (oAt p c jW)) (sym at-w)))
     where
       at-w : kBase e jW to jW ≡ slotK (coordAt e jW .k0) to
@@ -294,21 +311,26 @@ module _ (Q : ℕ → Float → Type 0) (want : ℕ) (W0 : want < 2) (bound : Cl
     kept-ok : (best : Best) → Ok best → Ok (keptBase bound now best)
     kept-ok best b = go (holds bound (now .cost) (now .key)) refl (lt (now .dist) (best .d))
       where
-        go : (h : Bool) → holds bound (now .cost) (now .key) ≡ h → (l : Bool) → Ok (cond (h && l) (record { d = now .dist; key = now .key; met = true }) best)
+        go : (h : Bool) → holds bound (now .cost) (now .key) ≡ h → (l : Bool)
+            → Ok (cond (h && l) (record { d = now .dist; key = now .key; met = true }) best)
         go true h true = λ q. G .base (top .j0) fix f5 class h
         go true h false = b
         go false h l = b
 
     -- one paired step
-    module _ (i l f2 fj : ℕ) (I0 : i < 8) (L0 : l < 8) (D0 : i ≢ l) (A1 : Adj fj (slotOf (top .j0) fix i)) (A2 : Adj f2 (slotOf (top .j0) fix l)) (F1 : fj < 5) (F2 : f2 < 5) where
+    module _ (i l f2 fj : ℕ) (I0 : i < 8) (L0 : l < 8) (D0 : i ≢ l) (A1 : Adj fj (slotOf (top .j0) fix i))
+        (A2 : Adj f2 (slotOf (top .j0) fix l)) (F1 : fj < 5) (F2 : f2 < 5) where
       abbrev kN : ℕ → ℤ
       kN = kPair e (top .j0) fix i fj l f2
 
       moved-class : parK kN 8 ≡ want
       moved-class = go (sumTo (λ j. oddK (kN j)) 8) (sumTo (λ j. oddK (kL j)) 8) (oddK (kL i)) (oddK (kL l)) (oddK (kN i)) (oddK (kN l)) want
           (sum-two (λ j. oddK (kN j)) (λ j. oddK (kL j)) i l 8 I0 L0 D0 (λ j h x y. ap oddK (pair-off e (top .j0) fix i fj l f2 D0 j h x y)))
-          (ap (λ (z : ℤ). oddK z + oddK (kL i)) (pair-i e (top .j0) fix i fj l f2 D0) ∙ adj-flip (coordAt e i .k0) fj (slotOf (top .j0) fix i) F1 (mid-lt (slot-mid (top .j0) fix i (fix-mid e want (top .j0)))) A1)
-          (ap (λ (z : ℤ). oddK z + oddK (kL l)) (pair-l e (top .j0) fix i fj l f2 D0) ∙ adj-flip (coordAt e l .k0) f2 (slotOf (top .j0) fix l) F2 (mid-lt (slot-mid (top .j0) fix l (fix-mid e want (top .j0)))) A2) class
+          (ap (λ (z : ℤ). oddK z + oddK (kL i)) (pair-i e (top .j0) fix i fj l f2 D0)
+          ∙ adj-flip (coordAt e i .k0) fj (slotOf (top .j0) fix i) F1 (mid-lt (slot-mid (top .j0) fix i (fix-mid e want (top .j0)))) A1)
+          (ap (λ (z : ℤ). oddK z + oddK (kL l)) (pair-l e (top .j0) fix i fj l f2 D0)
+          ∙ adj-flip (coordAt e l .k0) f2 (slotOf (top .j0) fix l) F2 (mid-lt (slot-mid (top .j0) fix l (fix-mid e want (top .j0)))) A2)
+          class
         where
           go : (m k a b x y w : ℕ) → m + (a + b) ≡ k + (x + y) → x + a ≡ 1 → y + b ≡ 1 → k % 2 ≡ w → m % 2 ≡ w
           go m k a b x y w h f g q = omega arith
@@ -322,7 +344,8 @@ module _ (Q : ℕ → Float → Type 0) (want : ℕ) (W0 : want < 2) (bound : Cl
       abbrev K : ℕ
       K = keyMoved (now .key) i (getD (coordAt e i .rank) fj 0) l (getD (coordAt e l .rank) f2 0)
 
-      step-ok : (best : Best) → Ok best → Ok (stepOf (coordAt e i) (coordAt e l) bound now best i (slotOf (top .j0) fix i) fj l (slotOf (top .j0) fix l) f2)
+      step-ok : (best : Best) → Ok best
+          → Ok (stepOf (coordAt e i) (coordAt e l) bound now best i (slotOf (top .j0) fix i) fj l (slotOf (top .j0) fix l) f2)
       unfolding stepOf
       step-ok best b = go (le (best .d) D) (holds bound C K) refl
         where
@@ -336,9 +359,11 @@ module _ (Q : ℕ → Float → Type 0) (want : ℕ) (W0 : want < 2) (bound : Cl
         let j = n / 2 in
         let l = otherOf (n / 2) (top .j0) (top .j1) in
         let o = other (n / 2) in
-        let x = first-ok (slotOf (top .j0) fix (n / 2)) (n % 2) (slot-mid (top .j0) fix (n / 2) (fix-mid e want (top .j0))) (mod-lt n (zero-lt-suc 1)) in
+        let x = first-ok (slotOf (top .j0) fix (n / 2)) (n % 2) (slot-mid (top .j0) fix (n / 2) (fix-mid e want (top .j0)))
+        (mod-lt n (zero-lt-suc 1)) in
         let y = second-ok (slotOf (top .j0) fix l) (coordAt e l .dir) (slot-mid (top .j0) fix l (fix-mid e want (top .j0))) in
-        step-ok (n / 2) l (secondOf (slotOf (top .j0) fix l) (coordAt e l .dir)) (slotOf (top .j0) fix (n / 2) + 2 * (n % 2) - 1) (omega arith) (o .0) (o .1) (x .0) (y .0) (x .1) (y .1) best b
+        step-ok (n / 2) l (secondOf (slotOf (top .j0) fix l) (coordAt e l .dir)) (slotOf (top .j0) fix (n / 2) + 2 * (n % 2) - 1)
+        (omega arith) (o .0) (o .1) (x .0) (y .0) (x .1) (y .1) best b
       where
         other : (j : ℕ) → (otherOf j (top .j0) (top .j1) < 8) × (j ≢ otherOf j (top .j0) (top .j1))
         other j = go (eqb j (top .j0)) (eqb→eq j (top .j0)) refl
@@ -366,7 +391,8 @@ module _ (Q : ℕ → Float → Type 0) (want : ℕ) (W0 : want < 2) (bound : Cl
     layers-ok : (n : ℕ) → n < 8 → Ok (layersTo ts p c want bound n)
     unfolding layersTo
     layers-ok zero h = layer-ok (row ts p c 0) (R 0 h) (topTo (row ts p c 0) 6) (top8 (row ts p c 0)) unmet none
-    layers-ok (suc n) h = layer-ok (row ts p c (suc n)) (R (suc n) h) (topTo (row ts p c (suc n)) 6) (top8 (row ts p c (suc n))) (layersTo ts p c want bound n) (layers-ok n (omega arith))
+    layers-ok (suc n) h = layer-ok (row ts p c (suc n)) (R (suc n) h) (topTo (row ts p c (suc n)) 6) (top8 (row ts p c (suc n)))
+        (layersTo ts p c want bound n) (layers-ok n (omega arith))
 
     -- whatever the rule meets has what is asked
     pub solve-holds : (n : ℕ) → n ≤ 8 → Ok (solve ts p c want bound n)

@@ -111,7 +111,8 @@ five-at f (suc (suc (suc (suc (suc n))))) d h = absurd (none h)
     none h = omega arith
 
 -- two terms changed
-pub sum-two : (f g : ℕ → ℕ) (i l n : ℕ) → i < n → l < n → i ≢ l → ((j : ℕ) → j < n → j ≢ i → j ≢ l → f j ≡ g j) → sumTo f n + (g i + g l) ≡ sumTo g n + (f i + f l)
+pub sum-two : (f g : ℕ → ℕ) (i l n : ℕ) → i < n → l < n → i ≢ l → ((j : ℕ) → j < n → j ≢ i → j ≢ l → f j ≡ g j) → sumTo f n + (g i + g l)
+    ≡ sumTo g n + (f i + f l)
 sum-two f g i l n hi hl d h =
     let a = sum-set mid g i n hi (λ j k m. off j m) in
     let b = sum-set f mid l n hl (λ j k m. at j k m (ℕ-discrete j i)) in
@@ -138,7 +139,9 @@ sum-two f g i l n hi hl d h =
 
 pub pair-le : (g : ℕ → ℕ) (i l n : ℕ) → i < n → l < n → i ≢ l → g i + g l ≤ sumTo g n
 pair-le g i l n hi hl d =
-    go (sumTo f n) (sumTo g n) (g i + g l) (f i) (f l) at-i at-l (sum-two f g i l n hi hl d (λ j k x y. ap (λ (t : Bool). cond t 0 (cond (eqb j l) 0 (g j))) (eqb-no j i x) ∙ ap (λ (t : Bool). cond t 0 (g j)) (eqb-no j l y)))
+    go (sumTo f n) (sumTo g n) (g i + g l) (f i) (f l) at-i at-l
+    (sum-two f g i l n hi hl d (λ j k x y.
+    ap (λ (t : Bool). cond t 0 (cond (eqb j l) 0 (g j))) (eqb-no j i x) ∙ ap (λ (t : Bool). cond t 0 (g j)) (eqb-no j l y)))
   where
     f : ℕ → ℕ
     f j = cond (eqb j i) 0 (cond (eqb j l) 0 (g j))
@@ -147,7 +150,8 @@ pair-le g i l n hi hl d =
     at-i = ap (λ (t : Bool). cond t 0 (cond (eqb i l) 0 (g i))) (eqb-yes i)
 
     at-l : f l ≡ 0
-    at-l = ap (λ (t : Bool). cond t 0 (cond (eqb l l) 0 (g l))) (eqb-no l i (λ (q : l ≡ i). d (sym q))) ∙ ap (λ (t : Bool). cond t 0 (g l)) (eqb-yes l)
+    at-l = ap (λ (t : Bool). cond t 0 (cond (eqb l l) 0 (g l))) (eqb-no l i (λ (q : l ≡ i). d (sym q)))
+        ∙ ap (λ (t : Bool). cond t 0 (g l)) (eqb-yes l)
 
     go : (sf sg p a b : ℕ) → a ≡ 0 → b ≡ 0 → sf + p ≡ sg + (a + b) → p ≤ sg
     go sf sg p a b x y h = omega arith
@@ -162,11 +166,13 @@ moved-lt key x j y l h =
 
 set-lt : (key x j : ℕ) → key < 2 ^ 32 → keySet key j x < 2 ^ 32
 unfolding keySet
-set-lt key x j h = or-lt 32 (bitAnd key (4294967295 - 15 * 2 ^ (4 * j) % 4294967296)) (x * 2 ^ (4 * j) % 4294967296) (lt-of-le-of-lt (and-le-l key (4294967295 - 15 * 2 ^ (4 * j) % 4294967296)) h) (mod-lt (x * 2 ^ (4 * j)) (zero-lt-suc 4294967295))
+set-lt key x j h = or-lt 32 (bitAnd key (4294967295 - 15 * 2 ^ (4 * j) % 4294967296)) (x * 2 ^ (4 * j) % 4294967296)
+    (lt-of-le-of-lt (and-le-l key (4294967295 - 15 * 2 ^ (4 * j) % 4294967296)) h) (mod-lt (x * 2 ^ (4 * j)) (zero-lt-suc 4294967295))
 
 -- ---- sizes
 pub member-abs : (o : ℕ) (k : ℤ) → natAbs (member o k) ≤ o + 4 * natAbs k
-member-abs o k = go (posPart (member o k)) (negPart (member o k)) o (posPart k) (negPart k) (natAbs k) (natAbs (member o k)) (abs-parts k) (abs-parts (member o k)) (member-parts o k) (one (member o k))
+member-abs o k = go (posPart (member o k)) (negPart (member o k)) o (posPart k) (negPart k) (natAbs k) (natAbs (member o k)) (abs-parts k)
+    (abs-parts (member o k)) (member-parts o k) (one (member o k))
   where
     one : (z : ℤ) → (posPart z ≡ 0) ⊎ (negPart z ≡ 0)
     one (pos n) = inr refl
@@ -190,7 +196,8 @@ off-abs (suc (suc (suc (suc (suc n))))) h = absurd (none h)
 pub slot-abs : (k : ℤ) (f : ℕ) → f < 5 → natAbs (slotK k f) ≤ natAbs k + 2
 slot-abs k f l =
     let z = pos f -ℤ pos 2 in
-    go (posPart (k +ℤ z)) (negPart (k +ℤ z)) (posPart k) (negPart k) (posPart z) (negPart z) (natAbs k) (natAbs z) (natAbs (k +ℤ z)) (off-abs f l) (abs-parts k) (abs-parts z) (abs-parts (k +ℤ z)) (add-parts k z) (one (k +ℤ z))
+    go (posPart (k +ℤ z)) (negPart (k +ℤ z)) (posPart k) (negPart k) (posPart z) (negPart z) (natAbs k) (natAbs z) (natAbs (k +ℤ z))
+    (off-abs f l) (abs-parts k) (abs-parts z) (abs-parts (k +ℤ z)) (add-parts k z) (one (k +ℤ z))
   where
     one : (z : ℤ) → (posPart z ≡ 0) ⊎ (negPart z ≡ 0)
     one (pos n) = inr refl
@@ -233,12 +240,17 @@ row-at ts p c s j h = tab-at Coord noCoord (λ j. coordOf (getD ts j nan) (getD 
 
 pub row-slots : (ts : List Float) (p c s : ℕ) → Slots p c (row ts p c s)
 row-slots ts p c s = record {
-  rank-is = λ j f h l. subst (λ (x : Coord). getD (x .rank) f 0 ≡ markK (oAt p c j) (slotK (x .k0) f)) (sym (row-at ts p c s j h)) (coord-rank (getD ts j nan) (getD shrinks s nan) (oAt p c j) f l);
-  w-is = λ j f h l. subst (λ (x : Coord). getD (x .w) f 0 ≡ sq (markK (oAt p c j) (slotK (x .k0) f))) (sym (row-at ts p c s j h)) (coord-w (getD ts j nan) (getD shrinks s nan) (oAt p c j) f l);
+  rank-is = λ j f h l. subst (λ (x : Coord). getD (x .rank) f 0 ≡ markK (oAt p c j) (slotK (x .k0) f)) (sym (row-at ts p c s j h))
+      (coord-rank (getD ts j nan) (getD shrinks s nan) (oAt p c j) f l);
+  w-is = λ j f h l. subst (λ (x : Coord). getD (x .w) f 0 ≡ sq (markK (oAt p c j) (slotK (x .k0) f))) (sym (row-at ts p c s j h))
+      (coord-w (getD ts j nan) (getD shrinks s nan) (oAt p c j) f l);
 }
 
-pub row-d : (ts : List Float) (p c s j f : ℕ) → j < 8 → f < 5 → getD (coordAt (row ts p c s) j .d) f nan ≡ sqTo (member (oAt p c j) (slotK (coordAt (row ts p c s) j .k0) f)) (getD ts j nan)
-row-d ts p c s j f h l = subst (λ (x : Coord). getD (x .d) f nan ≡ sqTo (member (oAt p c j) (slotK (x .k0) f)) (getD ts j nan)) (sym (row-at ts p c s j h)) (coord-d (getD ts j nan) (getD shrinks s nan) (oAt p c j) f l)
+pub row-d : (ts : List Float) (p c s j f : ℕ) → j < 8 → f < 5 → getD (coordAt (row ts p c s) j .d) f nan
+    ≡ sqTo (member (oAt p c j) (slotK (coordAt (row ts p c s) j .k0) f)) (getD ts j nan)
+row-d ts p c s j f h l = subst
+    (λ (x : Coord). getD (x .d) f nan ≡ sqTo (member (oAt p c j) (slotK (x .k0) f)) (getD ts j nan)) (sym (row-at ts p c s j h))
+    (coord-d (getD ts j nan) (getD shrinks s nan) (oAt p c j) f l)
 
 -- ---- all eight at their slots
 pub slot-lt : (j0 fix j : ℕ) → fix < 5 → slotOf j0 fix j < 5
@@ -268,9 +280,13 @@ module _ (p c : ℕ) (e : List Coord) (R : Slots p c e) (j0 fix : ℕ) (F0 : fix
     where
       go : Dec (i ≡ n) → rankAt (nowTo e j0 fix n .key) i ≡ cond (ltb i n) (markK (oAt p c i) (kS i)) 0
           → cond (eqb i n) (markK (oAt p c n) (kS n)) (rankAt (nowTo e j0 fix n .key) i) ≡ cond (ltb i (suc n)) (markK (oAt p c i) (kS i)) 0
-      go (yes q) r = subst (λ (z : ℕ). cond (eqb z n) (markK (oAt p c n) (kS n)) (rankAt (nowTo e j0 fix n .key) z) ≡ cond (ltb z (suc n)) (markK (oAt p c z) (kS z)) 0) (sym q)
-          (ap (λ (b : Bool). cond b (markK (oAt p c n) (kS n)) (rankAt (nowTo e j0 fix n .key) n)) (eqb-yes n) ∙ ap (λ (b : Bool). cond b (markK (oAt p c n) (kS n)) 0) (sym (ltb-yes n (suc n) (le-refl (suc n)))))
-      go (no d) r = ap (λ (b : Bool). cond b (markK (oAt p c n) (kS n)) (rankAt (nowTo e j0 fix n .key) i)) (eqb-no i n d) ∙ r ∙ ap (λ (b : Bool). cond b (markK (oAt p c i) (kS i)) 0) (same-ltb (ltb i n) (ltb→lt i n) (nltb→le i n) refl)
+      go (yes q) r = subst (λ (z : ℕ).
+          cond (eqb z n) (markK (oAt p c n) (kS n)) (rankAt (nowTo e j0 fix n .key) z) ≡ cond (ltb z (suc n)) (markK (oAt p c z) (kS z)) 0)
+          (sym q)
+          (ap (λ (b : Bool). cond b (markK (oAt p c n) (kS n)) (rankAt (nowTo e j0 fix n .key) n)) (eqb-yes n)
+          ∙ ap (λ (b : Bool). cond b (markK (oAt p c n) (kS n)) 0) (sym (ltb-yes n (suc n) (le-refl (suc n)))))
+      go (no d) r = ap (λ (b : Bool). cond b (markK (oAt p c n) (kS n)) (rankAt (nowTo e j0 fix n .key) i)) (eqb-no i n d) ∙ r
+          ∙ ap (λ (b : Bool). cond b (markK (oAt p c i) (kS i)) 0) (same-ltb (ltb i n) (ltb→lt i n) (nltb→le i n) refl)
         where
           same-ltb : (t : Bool) → (T t → i < n) → (T (not t) → n ≤ i) → ltb i n ≡ t → ltb i n ≡ ltb i (suc n)
           same-ltb true a b q = q ∙ sym (ltb-yes i (suc n) (up (a tt)))
@@ -285,7 +301,8 @@ module _ (p c : ℕ) (e : List Coord) (R : Slots p c e) (j0 fix : ℕ) (F0 : fix
   now-lt : (n : ℕ) → nowTo e j0 fix n .key < 2 ^ 32
   unfolding nowTo
   now-lt zero = lit≤ tt
-  now-lt (suc n) = or-lt 32 (nowTo e j0 fix n .key) (getD (coordAt e n .rank) (slotOf j0 fix n) 0 * 2 ^ (4 * n) % 4294967296) (now-lt n) (mod-lt (getD (coordAt e n .rank) (slotOf j0 fix n) 0 * 2 ^ (4 * n)) (zero-lt-suc 4294967295))
+  now-lt (suc n) = or-lt 32 (nowTo e j0 fix n .key) (getD (coordAt e n .rank) (slotOf j0 fix n) 0 * 2 ^ (4 * n) % 4294967296) (now-lt n)
+      (mod-lt (getD (coordAt e n .rank) (slotOf j0 fix n) 0 * 2 ^ (4 * n)) (zero-lt-suc 4294967295))
 
   pub now-shape : Shape p c kS (nowTo e j0 fix 8 .cost) (nowTo e j0 fix 8 .key)
   now-shape = record {
@@ -302,9 +319,11 @@ module _ (p c : ℕ) (k k' : ℕ → ℤ) (i : ℕ) (I0 : i < 8) (K0 : (j : ℕ)
   abbrev wts : (ℕ → ℤ) → ℕ → ℕ
   wts k j = sq (markK (oAt p c j) (k j))
 
-  pub step-shape : (cost key : ℕ) → Shape p c k cost key → Shape p c k' (cost - sq (markK o (k i)) + sq (markK o (k' i))) (keySet key i (markK o (k' i)))
+  pub step-shape : (cost key : ℕ) → Shape p c k cost key
+      → Shape p c k' (cost - sq (markK o (k i)) + sq (markK o (k' i))) (keySet key i (markK o (k' i)))
   step-shape cost key C = record {
-    cost-is = cost' cost (sumTo (wts k) 8) (sumTo (wts k') 8) (wts k i) (wts k' i) (C .cost-is) (sum-set (wts k') (wts k) i 8 I0 (λ j h d. ap (λ (z : ℤ). sq (markK (oAt p c j) z)) (K0 j h d))) (term-le (wts k) 8 i I0);
+    cost-is = cost' cost (sumTo (wts k) 8) (sumTo (wts k') 8) (wts k i) (wts k' i) (C .cost-is)
+        (sum-set (wts k') (wts k) i 8 I0 (λ j h d. ap (λ (z : ℤ). sq (markK (oAt p c j) z)) (K0 j h d))) (term-le (wts k) 8 i I0);
     key-lt = set-lt key (markK o (k' i)) i (C .key-lt);
     key-is = key';
   }
@@ -316,8 +335,10 @@ module _ (p c : ℕ) (k k' : ℕ → ℤ) (i : ℕ) (I0 : i < 8) (K0 : (j : ℕ)
       key' j h = nib-set key (markK o (k' i)) i j (rank-lt o (k' i)) I0 h ∙ go (ℕ-discrete j i)
         where
           go : Dec (j ≡ i) → cond (eqb j i) (markK o (k' i)) (rankAt key j) ≡ markK (oAt p c j) (k' j)
-          go (yes q) = subst (λ (z : ℕ). cond (eqb z i) (markK o (k' i)) (rankAt key z) ≡ markK (oAt p c z) (k' z)) (sym q) (ap (λ (b : Bool). cond b (markK o (k' i)) (rankAt key i)) (eqb-yes i))
-          go (no d) = ap (λ (b : Bool). cond b (markK o (k' i)) (rankAt key j)) (eqb-no j i d) ∙ C .key-is j h ∙ ap (markK (oAt p c j)) (sym (K0 j h d))
+          go (yes q) = subst (λ (z : ℕ). cond (eqb z i) (markK o (k' i)) (rankAt key z) ≡ markK (oAt p c z) (k' z)) (sym q)
+              (ap (λ (b : Bool). cond b (markK o (k' i)) (rankAt key i)) (eqb-yes i))
+          go (no d) = ap (λ (b : Bool). cond b (markK o (k' i)) (rankAt key j)) (eqb-no j i d) ∙ C .key-is j h
+              ∙ ap (markK (oAt p c j)) (sym (K0 j h d))
 
 -- ---- two coordinates stepped at once
 module _ (p c : ℕ) (k k' : ℕ → ℤ) (i l : ℕ) (I0 : i < 8) (L0 : l < 8) (D0 : i ≢ l) (K0 : (j : ℕ) → j < 8 → j ≢ i → j ≢ l → k' j ≡ k j) where
@@ -340,12 +361,20 @@ module _ (p c : ℕ) (k k' : ℕ → ℤ) (i l : ℕ) (I0 : i < 8) (L0 : l < 8) 
       key-lt' = moved-lt key (markK (oAt p c i) (k' i)) i (markK (oAt p c l) (k' l)) l (C .key-lt)
 
       key' : (j : ℕ) → j < 8 → rankAt (keyMoved key i (markK (oAt p c i) (k' i)) l (markK (oAt p c l) (k' l))) j ≡ markK (oAt p c j) (k' j)
-      key' j h = nib-moved key (markK (oAt p c i) (k' i)) i (markK (oAt p c l) (k' l)) l j (rank-lt (oAt p c i) (k' i)) (rank-lt (oAt p c l) (k' l)) I0 L0 h D0 ∙ go (ℕ-discrete j i) (ℕ-discrete j l)
+      key' j h = nib-moved key (markK (oAt p c i) (k' i)) i (markK (oAt p c l) (k' l)) l j (rank-lt (oAt p c i) (k' i))
+          (rank-lt (oAt p c l) (k' l)) I0 L0 h D0 ∙ go (ℕ-discrete j i) (ℕ-discrete j l)
         where
-          go : Dec (j ≡ i) → Dec (j ≡ l) → cond (eqb j i) (markK (oAt p c i) (k' i)) (cond (eqb j l) (markK (oAt p c l) (k' l)) (rankAt key j)) ≡ markK (oAt p c j) (k' j)
-          go (yes q) m = ap (λ (t : Bool). cond t (markK (oAt p c i) (k' i)) (cond (eqb j l) (markK (oAt p c l) (k' l)) (rankAt key j))) (subst (λ (z : ℕ). eqb j z ≡ true) q (eqb-yes j)) ∙ ap (λ (z : ℕ). markK (oAt p c z) (k' z)) (sym q)
-          go (no d) (yes q) = ap (λ (t : Bool). cond t (markK (oAt p c i) (k' i)) (cond (eqb j l) (markK (oAt p c l) (k' l)) (rankAt key j))) (eqb-no j i d) ∙ ap (λ (t : Bool). cond t (markK (oAt p c l) (k' l)) (rankAt key j)) (subst (λ (z : ℕ). eqb j z ≡ true) q (eqb-yes j)) ∙ ap (λ (z : ℕ). markK (oAt p c z) (k' z)) (sym q)
-          go (no d) (no e) = ap (λ (t : Bool). cond t (markK (oAt p c i) (k' i)) (cond (eqb j l) (markK (oAt p c l) (k' l)) (rankAt key j))) (eqb-no j i d) ∙ ap (λ (t : Bool). cond t (markK (oAt p c l) (k' l)) (rankAt key j)) (eqb-no j l e) ∙ C .key-is j h ∙ ap (markK (oAt p c j)) (sym (K0 j h d e))
+          go : Dec (j ≡ i) → Dec (j ≡ l)
+              → cond (eqb j i) (markK (oAt p c i) (k' i)) (cond (eqb j l) (markK (oAt p c l) (k' l)) (rankAt key j)) ≡ markK (oAt p c j) (k' j)
+          go (yes q) m = ap (λ (t : Bool). cond t (markK (oAt p c i) (k' i)) (cond (eqb j l) (markK (oAt p c l) (k' l)) (rankAt key j)))
+              (subst (λ (z : ℕ). eqb j z ≡ true) q (eqb-yes j)) ∙ ap (λ (z : ℕ). markK (oAt p c z) (k' z)) (sym q)
+          go (no d) (yes q) = ap (λ (t : Bool).
+              cond t (markK (oAt p c i) (k' i)) (cond (eqb j l) (markK (oAt p c l) (k' l)) (rankAt key j))) (eqb-no j i d)
+              ∙ ap (λ (t : Bool). cond t (markK (oAt p c l) (k' l)) (rankAt key j)) (subst (λ (z : ℕ). eqb j z ≡ true) q (eqb-yes j))
+              ∙ ap (λ (z : ℕ). markK (oAt p c z) (k' z)) (sym q)
+          go (no d) (no e) = ap (λ (t : Bool). cond t (markK (oAt p c i) (k' i)) (cond (eqb j l) (markK (oAt p c l) (k' l)) (rankAt key j)))
+              (eqb-no j i d) ∙ ap (λ (t : Bool). cond t (markK (oAt p c l) (k' l)) (rankAt key j)) (eqb-no j l e) ∙ C .key-is j h
+              ∙ ap (markK (oAt p c j)) (sym (K0 j h d e))
 
 -- ---- the distance of all eight is their section's, summed afresh
 abbrev pub Dists : List Float → ℕ → ℕ → List Coord → Type 0
@@ -355,7 +384,8 @@ pub now-dist : (ts : List Float) (p c : ℕ) (e : List Coord) → Dists ts p c e
     → nowTo e j0 fix n .dist ≡ distTo (λ j. member (oAt p c j) (slotK (coordAt e j .k0) (slotOf j0 fix j))) ts n
 unfolding nowTo distTo
 now-dist ts p c e D j0 fix F0 zero h = refl
-now-dist ts p c e D j0 fix F0 (suc n) h = ap₂ (add binary64) (now-dist ts p c e D j0 fix F0 n (omega arith)) (D n (slotOf j0 fix n) h (slot-lt j0 fix n F0))
+now-dist ts p c e D j0 fix F0 (suc n) h =
+    ap₂ (add binary64) (now-dist ts p c e D j0 fix F0 n (omega arith)) (D n (slotOf j0 fix n) h (slot-lt j0 fix n F0))
 
 -- ---- within a bound a candidate's key is its section's: ranks of at most 4 give their members back
 pub shape-at : (p c : ℕ) → p < 2 → (b : Closed) → b .cost ≤ 96 → (k : ℕ → ℤ) (cost key : ℕ) → Shape p c k cost key → holds b cost key ≡ true

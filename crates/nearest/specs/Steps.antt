@@ -1,22 +1,20 @@
 -- Candidates made by the loops: all eight at their slots, then one or two coordinates stepped.
-use mathlib.Core.Path.{_≡_, refl, sym, ap, ap₂, subst}
+use mathlib.Core.Path.{_≡_, sym, ap, subst}
 use mathlib.Core.Logic.{_≢_}
 use mathlib.Core.List.{List}
-use Prim.Native.Nat.{ℕ, zero, suc, _+_, _-_, _*_, _≤_, _<_}
+use Prim.Native.Nat.{ℕ, _+_, _-_, _*_, _≤_, _<_}
 use native.Mathlib.Nat.{le-refl, lt-of-le-of-lt}
 use native.Mathlib.Omega.{arith}
 use native.Mathlib.Decide.{ℕ-discrete}
 use lib.Dec.{lit≤}
-use lib.ListN.{getD}
 use lib.IntN.{ℤ, natAbs}
-use lib.Ieee.{Float, nan, binary64, add, sub}
+use lib.Ieee.{Float, binary64, add, sub}
 use Rattle.float.specs.Value.{U}
 use Rattle.float.specs.Near.{Near, near-parts}
 use Rattle.rank.specs.Vector.{sq}
 use Rattle.search.specs.declared.Coord.{Coord}
 use Rattle.search.specs.Record.{coordAt, slotK, sqTo, member}
 use Rattle.search.specs.Base.{slotOf, nowTo, keySet}
-use Rattle.search.specs.Entries.{distTo}
 use Rattle.nearest.specs.Keys.{markK}
 use Rattle.nearest.specs.Statement.{sumTo}
 use Rattle.nearest.specs.Sums.{sum-set}
