@@ -19,6 +19,8 @@ use Rattle.float.specs.Exact.{parts, zero-fits, zero-mag}
 use Rattle.float.specs.Compare.{lt-is, not-lt-is}
 use Rattle.float.specs.Near.{abs-exactly}
 use Rattle.float.specs.Arrays.{quotients-length, quotients-at}
+use Rattle.nearest.specs.Accepted.{quotient-finite}
+use Rattle.nearest.specs.Accepted as call
 
 pub record Accepted (t : List Float) : Type 0 where
   pub len : length t ≡ 24
@@ -75,7 +77,15 @@ quotients-accepted x s e f g =
     at : (j : ℕ) → j < 24 → getD (quotientsOf x s) j nan ≡ div binary64 (getD x j nan) s
     at j h = quotients-at x s j (subst (λ (n : ℕ). j < n) (sym e) h)
 
--- ---- so something is accepted: the origin
+-- ---- so those of an accepted call are
+pub call-accepted : (x : List Float) (s : Float) → call.Accepted x s → Accepted (quotientsOf x s)
+call-accepted x s A =
+    quotients-accepted x s (A .size)
+    (λ j h.
+    quotient-finite (getD x j nan) s (A .samples j h) (A .scale) (A .finite-samples j h) (A .finite-scale) (A .above-zero) (A .quotients j h))
+    (A .quotients)
+
+-- ---- and something is accepted: the origin
 origin : Accepted (tab (λ j. zero64) 24)
 origin =
     record {

@@ -3,11 +3,11 @@
 -- `has-word` and `encodes`, for the even profile `found-even`, `has-word-even` and `encodes-even`.
 use mathlib.Core.Path.{_≡_, refl, sym, subst}
 use mathlib.Core.Bool.{Bool, true, false, not, cond, _&&_, _||_}
-use mathlib.Core.List.{List, [], _∷_, List·Memᴰ, List·Memᴰ·head, List·Memᴰ·tail, List·Memᴰ·not-nil}
-use Prim.Native.Nat.{ℕ, _+_, _≤_, _<_}
-use native.Mathlib.Nat.{zero-lt-suc, le-refl}
+use mathlib.Core.List.{List, [], _∷_, List·Memᴰ, List·Memᴰ·head, List·Memᴰ·tail}
+use Prim.Native.Nat.{ℕ, _+_, _<_}
+use native.Mathlib.Nat.{zero-lt-suc}
 use native.Mathlib.Omega.{arith}
-use lib.Dec.{T, ltb, ltb→lt}
+use lib.Dec.{T}
 use lib.ListN.{getD, length}
 use lib.Ieee.{Float, nan, lt}
 use Rattle.laws.specs.Lists.{tab-at}
@@ -21,24 +21,12 @@ use Rattle.search.specs.Tables.{tables}
 use Rattle.search.specs.Entries.{Rule}
 use Rattle.search.specs.Parity.{Targets, parity, nobody, costOf, choose, searchOver, search, bothParities}
 use Rattle.search.specs.Block.{ruleOf, coordinate, trioOf, targetsOf, pointFrom, winnerFor}
-use Rattle.nearest.specs.Statement.{RuleOk}
+use Rattle.nearest.specs.Demand3.{rule-ok, both-lt, even-lt}
 use Rattle.nearest.specs.Sections.{up8, up16, up24}
 use Rattle.members.specs.Accepted.{Accepted}
 use Rattle.members.specs.Sizes.{Target}
 use Rattle.members.specs.Paths.{Through, found-through, first-found}
 use Rattle.members.specs.Point.{winner-word}
-
--- any setting runs at most the shrinks there are
-rule-ok : (n : ℕ) → RuleOk (ruleOf n)
-rule-ok n = record { ends = seven (ltb n 7) (ltb→lt n 7); mids = eight (ltb n 8) (ltb→lt n 8) }
-  where
-    seven : (b : Bool) → (T b → n < 7) → cond b n 7 ≤ 8
-    seven true f = let l = f tt in omega arith
-    seven false f = omega arith
-
-    eight : (b : Bool) → (T b → n < 8) → cond b n 8 ≤ 8
-    eight true f = let l = f tt in omega arith
-    eight false f = omega arith
 
 -- ---- the sections' targets
 module _ (t : List Float) (A : Accepted t) where
@@ -123,11 +111,6 @@ module _ (t : List Float) (A : Accepted t) where
         winner-word (winnerFor ps n t) (g .0) (g .1)
 
 -- ---- the full coder
-both-lt : (q : ℕ) → List·Memᴰ q bothParities → q < 2
-both-lt q (List·Memᴰ·head e) = subst (λ (n : ℕ). n < 2) (sym e) (zero-lt-suc 1)
-both-lt q (List·Memᴰ·tail (List·Memᴰ·head e)) = subst (λ (n : ℕ). n < 2) (sym e) (le-refl 2)
-both-lt q (List·Memᴰ·tail (List·Memᴰ·tail m)) = absurd (List·Memᴰ·not-nil m)
-
 pub found : (t : List Float) → Accepted t → (n : ℕ) → winnerFor bothParities n t .found ≡ true
 found t A n = finds t A n bothParities (zero-lt-suc 1) both-lt
 
@@ -140,15 +123,11 @@ pub encodes : (t : List Float) → Accepted t → (n : ℕ)
 encodes t A n = words.accepts (pointFrom (winnerFor bothParities n t)) (has-word t A n)
 
 -- ---- the even profile
-only-lt : (q : ℕ) → List·Memᴰ q (0 ∷ []) → q < 2
-only-lt q (List·Memᴰ·head e) = subst (λ (n : ℕ). n < 2) (sym e) (zero-lt-suc 1)
-only-lt q (List·Memᴰ·tail m) = absurd (List·Memᴰ·not-nil m)
-
 pub found-even : (t : List Float) → Accepted t → (n : ℕ) → winnerFor (0 ∷ []) n t .found ≡ true
-found-even t A n = finds t A n (0 ∷ []) (zero-lt-suc 0) only-lt
+found-even t A n = finds t A n (0 ∷ []) (zero-lt-suc 0) even-lt
 
 pub has-word-even : (t : List Float) → Accepted t → (n : ℕ) → HasWord (pointFrom (winnerFor (0 ∷ []) n t))
-has-word-even t A n = point-has-word t A n (0 ∷ []) (zero-lt-suc 0) only-lt
+has-word-even t A n = point-has-word t A n (0 ∷ []) (zero-lt-suc 0) even-lt
 
 pub encodes-even : (t : List Float) → Accepted t → (n : ℕ)
     → words.Accepted (pointFrom (winnerFor (0 ∷ []) n t)) (encodeOf (pointFrom (winnerFor (0 ∷ []) n t)))

@@ -12,7 +12,7 @@ use lib.ListN.{getD, length}
 use lib.IntN.{ℤ, pos}
 use Rattle.laws.specs.Tests.{true-is, or-cases, and-left, and-right}
 use Rattle.laws.specs.Order.{pick3, lexLe, pick3-lt, pick3-eq}
-use Rattle.laws.specs.Whole.{modZ, divZ, mod4-lt, parity-add}
+use Rattle.laws.specs.Whole.{modZ, divZ, mod4-lt}
 use Rattle.laws.specs.Bits.{weight}
 use Rattle.rank.specs.Coord.{kOf, valOf}
 use Rattle.rank.specs.Vector.{sq, cost, kZero, class, unpack, ranksBelow, within, boundCost, boundCut, middleCost, middleCut, inClass, inMiddle}
@@ -28,31 +28,10 @@ use Rattle.search.specs.TableLaws.{class0-is, class1-is, mixed-is}
 use Rattle.search.specs.Entries.{rankAt}
 use Rattle.nearest.specs.Statement.{sumTo, oddK}
 use Rattle.nearest.specs.Sums.{sum-same}
+use Rattle.nearest.specs.Packed.{cost-sum, k-sum-is}
 use Rattle.nearest.specs.Keys.{member-one, member-self}
 use Rattle.nearest.specs.Shape.{oAt, o-lt}
 use Rattle.members.specs.Candidates.{Member}
-
--- ---- sums over a list
-sum-front : (f : ℕ → ℕ) (n : ℕ) → f 0 + sumTo (λ j. f (suc j)) n ≡ sumTo f (suc n)
-unfolding sumTo
-sum-front f zero = omega arith
-sum-front f (suc n) = let a = sum-front f n in omega arith
-
-cost-sum : (v : List ℕ) → cost v ≡ sumTo (λ j. sq (getD v j 0)) (length v)
-unfolding sumTo
-cost-sum [] = refl
-cost-sum (r ∷ v) = ap (λ (n : ℕ). sq r + n) (cost-sum v) ∙ sum-front (λ j. sq (getD (r ∷ v) j 0)) (length v)
-
-k-sum-is : (t : List ℤ) → modZ (kSum t) 2 ≡ sumTo (λ j. modZ (kOf (getD t j (pos 0))) 2) (length t) % 2
-unfolding kSum sumTo
-k-sum-is [] = refl
-k-sum-is (y ∷ t) =
-    parity-add (kOf y) (kSum t) ∙ ap (λ (n : ℕ). (modZ (kOf y) 2 + n) % 2) (k-sum-is t)
-    ∙ last (modZ (kOf y) 2) (sumTo (λ j. modZ (kOf (getD t j (pos 0))) 2) (length t))
-    ∙ ap (λ (n : ℕ). n % 2) (sum-front (λ j. modZ (kOf (getD (y ∷ t) j (pos 0))) 2) (length t))
-  where
-    last : (x y : ℕ) → (x + y % 2) % 2 ≡ (x + y) % 2
-    last x y = omega arith
 
 -- ---- digits below 16 read as one number are in the order of the lists
 digits-lex : (v w : List ℕ) → length v ≡ length w → T (ranksBelow 16 v) → T (ranksBelow 16 w) → (a b : ℕ) → lexNum a v ≤ lexNum b w

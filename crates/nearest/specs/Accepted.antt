@@ -1,21 +1,18 @@
 -- Demand 3 for an accepted call: its 24 quotients are a target, so the search at the call's scale finds the nearest point. Assumes nothing.
-use mathlib.Core.Path.{_≡_, refl, sym, ap, _∙_, subst}
+use mathlib.Core.Path.{_≡_, sym, _∙_, subst}
 use mathlib.Core.Logic.{_≢_}
 use mathlib.Core.Bool.{Bool, true, false, cond, not}
 use mathlib.Core.List.{List}
-use Prim.Native.Nat.{ℕ, zero, suc, _+_, _*_, _^_, _≤_, _<_}
-use native.Mathlib.Omega.{arith}
+use Prim.Native.Nat.{ℕ, zero, suc, _+_, _*_, _^_, _<_}
 use lib.Dec.{T, ltb}
 use lib.ListN.{getD, length}
 use lib.IntN.{ℤ}
 use lib.Ieee.{Float, nan, inf, fin, binary64, fits, div, lt, isNan, round, odd, units, low, emax, prec}
 use lib.Ieee.Fits.{round-is, div-fits}
 use lib.Ieee.Scale.{finite}
-use Rattle.float.specs.Value.{U, magUnits, posUnits, negUnits, zero64}
+use Rattle.float.specs.Value.{zero64}
 use Rattle.float.specs.Calls.{absOf, million64, quotientsOf}
-use Rattle.float.specs.Exact.{parts}
-use Rattle.float.specs.Near.{abs-exactly}
-use Rattle.float.specs.Compare.{not-lt-is, zero-lt}
+use Rattle.float.specs.Compare.{zero-lt}
 use Rattle.float.specs.Arithmetic.{div-fraction}
 use Rattle.float.specs.Arrays.{quotients-length, quotients-at}
 use Rattle.float.specs.Distance.{sqDist, margin}
@@ -60,21 +57,6 @@ not-above nan n e = absurd n
 not-above (inf s) n e = subst T e tt
 not-above (fin s m k) n e = tt
 
--- and at most a million units of one in size
-million : magUnits million64 ≡ 1000000 * U
-unfolding magUnits
-million = refl
-
-pub at-most-million : (q : Float) → T (fits binary64 q) → T (finite q) → lt million64 (absOf q) ≡ false → magUnits q ≤ 1000000 * U
-at-most-million q f i e =
-    let a = abs-exactly q f i in
-    let w = parts (absOf q) false (a .sign) in
-    go (posUnits (absOf q)) (negUnits (absOf q)) (magUnits (absOf q)) (magUnits q) (magUnits million64) (1000000 * U) (w .0) (w .1) (a .mag) million
-    (not-lt-is million64 (absOf q) (unfold fits in tt) (a .fit) tt (a .fin) e)
-  where
-    go : (p n g h m k : ℕ) → p ≡ g → n ≡ 0 → g ≡ h → m ≡ k → p + 0 ≤ m + n → h ≤ k
-    go p n g h m k a b c d e = omega arith
-
 -- ---- so the quotient of an accepted sample by an accepted scale is finite
 pub quotient-finite : (x s : Float) → T (fits binary64 x) → T (fits binary64 s) → T (finite x) → T (finite s) → T (lt zero64 s)
     → lt million64 (absOf (div binary64 x s)) ≡ false → T (finite (div binary64 x s))
@@ -104,10 +86,3 @@ pub nearest-accepted : (x : List Float) (s : Float) → Accepted x s → (y : Li
     → ((z : List ℤ) → LatticePoint z → z ≢ y → sqDist y (quotientsOf x s) + margin < sqDist z (quotientsOf x s))
     → (n : ℕ) → Finds bothParities n (quotientsOf x s) y
 nearest-accepted x s A = nearest-full (quotientsOf x s) (accepted-target x s A)
-
--- ---- each quotient is at most a million in size
-pub quotients-small : (x : List Float) (s : Float) → Accepted x s → (j : ℕ) → j < 24 → magUnits (getD (quotientsOf x s) j nan) ≤ 1000000 * U
-quotients-small x s A j h =
-    let t = accepted-target x s A in
-    at-most-million (getD (quotientsOf x s) j nan) (t .double j h) (t .bounded j h)
-    (ap (λ (q : Float). lt million64 (absOf q)) (quotients-at x s j (subst (λ (n : ℕ). j < n) (sym (A .size)) h)) ∙ A .quotients j h)
