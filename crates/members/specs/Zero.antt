@@ -7,6 +7,7 @@ use Prim.Native.Nat.{ℕ, zero, suc, _+_, _*_, _/_, _%_, _^_, _≤_, _<_}
 use native.Mathlib.Nat.{le-refl, le-trans, le-of-eq, le-of-mul-le-mul-right, mul-zero, zero-mul, mod-lt, zero-lt-suc, mul-le-mul}
 use native.Mathlib.Decide.{ℕ-discrete}
 use native.Mathlib.Omega.{arith}
+use borrow.Author.Tests.{eq-eqb, ne-eqb}
 use lib.Dec.{T, ltb, leb, eqb, leb→le, le→leb, lt→ltb, eqb→eq, lit≤}
 use lib.Pow.{pow-pos}
 use lib.ListN.{getD}
@@ -32,7 +33,6 @@ use Rattle.search.specs.Tables.{tables}
 use Rattle.nearest.specs.Statement.{sumTo}
 use Rattle.nearest.specs.Sums.{sum-le, sum-set}
 use Rattle.nearest.specs.Keys.{markK}
-use Rattle.nearest.specs.Base.{eqb-no, eqb-yes}
 use Rattle.nearest.specs.Under.{clash}
 use Rattle.nearest.specs.Shape.{oAt, o-lt, Shape, row-at, row-slots, now-shape}
 use Rattle.nearest.specs.Rule.{kBase, top-ok, mid-lt, toward-mid}
@@ -375,8 +375,8 @@ module _ (ts : List Float) (p c : ℕ) (P0 : p < 2) (T0 : (j : ℕ) → j < 8 �
       differ a q z = omega arith
   zero-case E (inl x) =
       one-holds p c (kBase e j0 to) (nowTo e j0 to 8 .cost) (nowTo e j0 to 8 .key) stepped-shape j0 J0
-      (subst (λ (b : Bool). markK (o j0) (slotK (coordAt e j0 .k0) (cond b to 2)) ≤ 2) (sym (eqb-yes j0)) (to-le j0 J0))
-      (λ j h d. ap (λ (b : Bool). markK (o j) (slotK (coordAt e j .k0) (cond b to 2))) (eqb-no j j0 d)
+      (subst (λ (b : Bool). markK (o j0) (slotK (coordAt e j0 .k0) (cond b to 2)) ≤ 2) (sym (eq-eqb j0 j0 refl)) (to-le j0 J0))
+      (λ j h d. ap (λ (b : Bool). markK (o j) (slotK (coordAt e j .k0) (cond b to 2))) (ne-eqb j j0 d)
       ∙ two-none j h (differ (o j) (top-zero E 6 (le-refl 6) x j h)))
     where
       differ : (a : ℕ) → a ≡ 0 → a ≢ 2

@@ -6,6 +6,7 @@ use mathlib.Core.List.{List}
 use Prim.Native.Nat.{ℕ, _+_, _*_, _≤_, _<_}
 use native.Mathlib.Nat.{le-refl, le-trans, le-of-eq}
 use native.Mathlib.Omega.{arith}
+use borrow.Author.Tests.{eq-eqb, ne-eqb}
 use lib.Dec.{eqb, lit≤}
 use lib.Signed.{ltZ}
 use lib.IntN.{ℤ, pos, natAbs}
@@ -26,7 +27,7 @@ use Rattle.nearest.specs.Statement.{sumTo, RowOf}
 use Rattle.nearest.specs.Sums.{sum-same}
 use Rattle.nearest.specs.Ints.{gap-is, gapK}
 use Rattle.nearest.specs.Coordinate.{Target}
-use Rattle.nearest.specs.Base.{facts, worst-lt, bK, base-best, eqb-yes, eqb-no, W3}
+use Rattle.nearest.specs.Base.{facts, worst-lt, bK, base-best, W3}
 use Rattle.nearest.specs.Operations.{H}
 use Rattle.nearest.specs.Lattice.{Sec, Same, dist8, M}
 use Rattle.nearest.specs.Under.{Num, Under, near-num, near-under, under-near}
@@ -37,13 +38,17 @@ use Rattle.nearest.specs.Rule.{slot-class, stepped-shape}
 use Rattle.nearest.specs.Steps.{Row, slot-small, now-cand, step-cand}
 
 -- a candidate that is a member section is a member
-pub cand-holds : (ts : List Float) (p c c' : ℕ) → p < 2 → (b : Closed) → b .cost ≤ 96 → (k : ℕ → ℤ) (cost key : ℕ) (dist : Float) (e : ℕ) → Cand ts p c k cost key dist e
+pub cand-holds : (ts : List Float) (p c c' : ℕ) → p < 2 → (b : Closed) → b .cost ≤ 96 → (k : ℕ → ℤ) (cost key : ℕ) (dist : Float) (e : ℕ)
+    → Cand ts p c k cost key dist e
     → (y : ℕ → ℤ) → RowOf p c' b y → Same (λ j. member (oAt p c j) (k j)) y → holds b cost key ≡ true
 cand-holds ts p c c' P0 b B0 k cost key dist e C y R S =
-    subst (λ (z : ℕ). holds b z key ≡ true) (sym cost-same) (subst (λ (z : ℕ). holds b (sumTo (λ j. sq (rankAt (R .key) j)) 8) z ≡ true) (sym key-same) (R .within))
+    subst (λ (z : ℕ). holds b z key ≡ true) (sym cost-same)
+    (subst (λ (z : ℕ). holds b (sumTo (λ j. sq (rankAt (R .key) j)) 8) z ≡ true) (sym key-same) (R .within))
   where
     rho4 : (j : ℕ) → j < 8 → rankAt (R .key) j ≤ 4
-    rho4 j h = weight-le (rankAt (R .key) j) (nib-lt (R .key) j) (le-trans (term-le (λ j. sq (rankAt (R .key) j)) 8 j h) (le-trans (holds-le b (sumTo (λ j. sq (rankAt (R .key) j)) 8) (R .key) (R .within)) B0))
+    rho4 j h = weight-le (rankAt (R .key) j) (nib-lt (R .key) j)
+        (le-trans (term-le (λ j. sq (rankAt (R .key) j)) 8 j h)
+        (le-trans (holds-le b (sumTo (λ j. sq (rankAt (R .key) j)) 8) (R .key) (R .within)) B0))
 
     rank-same : (j : ℕ) → j < 8 → markK (oAt p c j) (k j) ≡ rankAt (R .key) j
     rank-same j h = ap markOf (S j h ∙ R .at j h) ∙ rank-forth (oAt p c' j) (rankAt (R .key) j) (o-lt p c' j P0) (rho4 j h)
@@ -91,7 +96,8 @@ module _ (ts : List Float) (p c : ℕ) (P0 : p < 2) (T0 : (j : ℕ) → j < 8 �
   more h C = record { small = C .small; shape = C .shape; near = near-more ES (C .near) h }
 
   own-cand : Cand ts p c k2 (nowTo eR 0 2 8 .cost) (nowTo eR 0 2 8 .key) (nowTo eR 0 2 8 .dist) (8 * (ET + H))
-  own-cand = subst (λ (k : ℕ → ℤ). Cand ts p c k (nowTo eR 0 2 8 .cost) (nowTo eR 0 2 8 .key) (nowTo eR 0 2 8 .dist) (8 * (ET + H))) (both2 0) (now-cand ts p c P0 T0 eR row0 0 2 (lit≤ tt))
+  own-cand = subst (λ (k : ℕ → ℤ). Cand ts p c k (nowTo eR 0 2 8 .cost) (nowTo eR 0 2 8 .key) (nowTo eR 0 2 8 .dist) (8 * (ET + H)))
+      (both2 0) (now-cand ts p c P0 T0 eR row0 0 2 (lit≤ tt))
 
   to-lt : (d : ℤ) → towardOf d < 5
   to-lt d = go (ltZ (pos 0) d)
@@ -107,7 +113,7 @@ module _ (ts : List Float) (p c : ℕ) (P0 : p < 2) (T0 : (j : ℕ) → j < 8 �
   kT j = slotK (kR j) (slotOf jW fW j)
 
   at-W : kT jW ≡ slotK (kR jW) fW
-  at-W = ap (λ (b : Bool). slotK (kR jW) (cond b fW 2)) (eqb-yes jW)
+  at-W = ap (λ (b : Bool). slotK (kR jW) (cond b fW 2)) (eq-eqb jW jW refl)
 
   w8 : jW < 8
   w8 = worst-lt eR 8 (le-refl 8)
@@ -116,7 +122,7 @@ module _ (ts : List Float) (p c : ℕ) (P0 : p < 2) (T0 : (j : ℕ) → j < 8 �
   kT-small = subst (λ (z : ℤ). natAbs z < 31) (sym at-W) (slot-small (kR jW) fW (row0 .small jW w8) (to-lt (coordAt eR jW .dir)))
 
   kT-off : (j : ℕ) → j < 8 → j ≢ jW → kT j ≡ k2 j
-  kT-off j h d = ap (λ (b : Bool). slotK (kR j) (cond b fW 2)) (eqb-no j jW d)
+  kT-off j h d = ap (λ (b : Bool). slotK (kR j) (cond b fW 2)) (ne-eqb j jW d)
 
   stepped-cand : CandN kT (stepped (coordAt eR jW) (nowTo eR 0 2 8) jW)
   unfolding stepped
@@ -145,7 +151,8 @@ module _ (ts : List Float) (p c : ℕ) (P0 : p < 2) (T0 : (j : ℕ) → j < 8 �
 
   -- a base that is a member stands for its section
   pub base-good : (b : Closed) → b .cost ≤ 96 → (r : ℕ) → r < 2 → SoundB p c r ts (baseBest b (baseNow eR r))
-  base-good b B0 r R0 h = cand-stands ts p c r P0 T0 b B0 (bK ts p c P0 T0 r) (baseNow eR r .cost) (baseNow eR r .key) (baseNow eR r .dist) ES (le-refl ES) (base-cand r) (slot-class eR jW r w8 R0) h
+  base-good b B0 r R0 h = cand-stands ts p c r P0 T0 b B0 (bK ts p c P0 T0 r) (baseNow eR r .cost) (baseNow eR r .key)
+      (baseNow eR r .dist) ES (le-refl ES) (base-cand r) (slot-class eR jW r w8 R0) h
 
   -- the section of the base
   abbrev bS : ℕ → ℕ → ℤ
@@ -160,15 +167,21 @@ module _ (ts : List Float) (p c : ℕ) (P0 : p < 2) (T0 : (j : ℕ) → j < 8 �
   -- no section of this byte and class is nearer
   pub base-near : (r : ℕ) (y : ℕ → ℤ) → Sec p c r y → dist8 (bS r) ts ≤ dist8 y ts + W3
   base-near r y s =
-      le-trans (le-of-eq (sum-same (λ j. sqV (bS r j) (tAt ts j)) (λ j. gapK (oAt p c j) (bK ts p c P0 T0 r j) (tAt ts j) * gapK (oAt p c j) (bK ts p c P0 T0 r j) (tAt ts j)) 8 (λ j l. ap (λ (z : ℕ). z * z) (gap-is (oAt p c j) (bK ts p c P0 T0 r j) (tAt ts j)))))
+      le-trans (le-of-eq (sum-same (λ j. sqV (bS r j) (tAt ts j))
+      (λ j. gapK (oAt p c j) (bK ts p c P0 T0 r j) (tAt ts j) * gapK (oAt p c j) (bK ts p c P0 T0 r j) (tAt ts j)) 8
+      (λ j l. ap (λ (z : ℕ). z * z) (gap-is (oAt p c j) (bK ts p c P0 T0 r j) (tAt ts j)))))
       (le-trans (base-best ts p c P0 T0 r (s .k) (s .class))
-      (le-of-eq (ap (λ (z : ℕ). z + W3) (sum-same (λ j. gapK (oAt p c j) (s .k j) (tAt ts j) * gapK (oAt p c j) (s .k j) (tAt ts j)) (λ j. sqV (y j) (tAt ts j)) 8 (λ j l. sym (ap (λ (z : ℤ). sqV z (tAt ts j)) (s .at j l) ∙ ap (λ (z : ℕ). z * z) (gap-is (oAt p c j) (s .k j) (tAt ts j))))))))
+      (le-of-eq (ap (λ (z : ℕ). z + W3)
+      (sum-same (λ j. gapK (oAt p c j) (s .k j) (tAt ts j) * gapK (oAt p c j) (s .k j) (tAt ts j)) (λ j. sqV (y j) (tAt ts j)) 8
+      (λ j l. sym (ap (λ (z : ℤ). sqV z (tAt ts j)) (s .at j l) ∙ ap (λ (z : ℕ). z * z) (gap-is (oAt p c j) (s .k j) (tAt ts j))))))))
 
   -- with the margin: `own` says that a section of this byte and class as near as y's is y's
-  module _ (r : ℕ) (R0 : r < 2) (y : ℕ → ℤ) (own : (s : ℕ → ℤ) → Sec p c r s → dist8 s ts ≤ dist8 y ts + M → Same s y) (b : Closed) (B0 : b .cost ≤ 96) (c' : ℕ) (Y : RowOf p c' b y) where
+  module _ (r : ℕ) (R0 : r < 2) (y : ℕ → ℤ) (own : (s : ℕ → ℤ) → Sec p c r s → dist8 s ts ≤ dist8 y ts + M → Same s y) (b : Closed)
+      (B0 : b .cost ≤ 96) (c' : ℕ) (Y : RowOf p c' b y) where
     -- a cheap base is a member
     pub cheap-member : Under (baseNow eR r .dist) (dist8 y ts + ES) → holds b (baseNow eR r .cost) (baseNow eR r .key) ≡ true
-    cheap-member x = cand-holds ts p c c' P0 b B0 (bK ts p c P0 T0 r) (baseNow eR r .cost) (baseNow eR r .key) (baseNow eR r .dist) ES (base-cand r) y Y
+    cheap-member x = cand-holds ts p c c' P0 b B0 (bK ts p c P0 T0 r) (baseNow eR r .cost) (baseNow eR r .key) (baseNow eR r .dist) ES
+        (base-cand r) y Y
         (own (bS r) (base-sec r R0) (le-trans (under-near (base-cand r .near) x) (fits (dist8 y ts) ES M (lit≤ tt))))
       where
         fits : (d e m : ℕ) → e + e ≤ m → d + e + e ≤ d + m
@@ -178,7 +191,9 @@ module _ (ts : List Float) (p c : ℕ) (P0 : p < 2) (T0 : (j : ℕ) → j < 8 �
     pub own-cheap : Sec p c r y → Under (baseNow eR r .dist) (dist8 y ts + ES)
     own-cheap s =
         let S = own (bS r) (base-sec r R0) (le-trans (base-near r y s) (fits (dist8 y ts) W3 M (lit≤ tt))) in
-        near-under (dist8 y ts + ES) (base-cand r .near) (le-of-eq (ap (λ (z : ℕ). z + ES) (sum-same (λ j. sqV (bS r j) (tAt ts j)) (λ j. sqV (y j) (tAt ts j)) 8 (λ j l. ap (λ (z : ℤ). sqV z (tAt ts j)) (S j l)))))
+        near-under (dist8 y ts + ES) (base-cand r .near)
+        (le-of-eq (ap (λ (z : ℕ). z + ES)
+        (sum-same (λ j. sqV (bS r j) (tAt ts j)) (λ j. sqV (y j) (tAt ts j)) 8 (λ j l. ap (λ (z : ℤ). sqV z (tAt ts j)) (S j l)))))
       where
         fits : (d e m : ℕ) → e ≤ m → d + e ≤ d + m
         fits d e m h = omega arith

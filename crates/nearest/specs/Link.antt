@@ -181,10 +181,10 @@ module _ (y : List ℤ) (W : HasWord y) where
       let v = sectionRanks y s in
       let r = class v in
       let even' : code.weight 8 c % 2 ≡ 0 = subst (λ (n : ℕ). code.weight 8 n % 2 ≡ 0) e even in
-      row-of (W .point .p) c (p-lt y (W .point)) (section y s) (section-size y s hs) (part-uniform s hs) (q ∙ e) (own-small v m) f a
+      row-of (W .point .p) c (section y s) (section-size y s hs) (part-uniform s hs) (q ∙ e) (own-small v m) f a
       (classOf tables (parK (λ j. kOf (f j)) 8)) (boundCost r) (boundCut r)
       (ap (classOf tables)
-      (class-of (W .point .p) c (p-lt y (W .point)) (section y s) (section-size y s hs) (part-uniform s hs) (q ∙ e) (own-small v m) f a even')
+      (class-of (W .point .p) c (section y s) (section-size y s hs) (part-uniform s hs) (q ∙ e) (own-small v m) f a even')
       ∙ class-bound r (class-lt v))
       (cut-size r) (cut-below r) m
 
@@ -202,7 +202,7 @@ module _ (y : List ℤ) (W : HasWord y) where
             end-row 0 (first word) _ (omega arith) bits1 (even .0) (first-at x ∙ byte1 x) (W .first) (λ j. at24 (trio y) j)
             (λ j h. ap (at24 (trio y)) (sym (zero-add j)) ∙ sym (part-at 0 j h));
         two =
-            row-of (W .point .p) _ (p-lt y (W .point)) (section y 1) (section-size y 1 (omega arith)) (part-uniform 1 (omega arith))
+            row-of (W .point .p) _ (section y 1) (section-size y 1 (omega arith)) (part-uniform 1 (omega arith))
             (bits2 ∙ second-at x ∙ byte2 x) (own-small v (middle-class (class v) v (W .second))) (λ j. at24 (trio y) (8 + j))
             (λ j h. sym (part-at 1 j h)) (tables .mixed) middleCost middleCut mixed-is refl tt (W .second);
         three =

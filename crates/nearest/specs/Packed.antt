@@ -5,7 +5,7 @@ use mathlib.Core.Logic.{_⊎_, inl, inr}
 use mathlib.Core.Bool.{true, _&&_}
 use mathlib.Core.List.{List, [], _∷_}
 use Prim.Native.Nat.{ℕ, zero, suc, _+_, _*_, _/_, _%_, _^_, _≤_, _<_, suc-le-suc}
-use native.Mathlib.Nat.{zero-lt-suc, not-suc-le-zero, le-of-suc-le-suc, zero-mul, one-mul}
+use native.Mathlib.Nat.{zero-lt-suc, not-suc-le-zero, le-of-suc-le-suc}
 use native.Mathlib.Omega.{arith}
 use lib.Dec.{T, ltb, eqb, leb, lt→ltb, le→leb, lit≤}
 use lib.ListN.{getD, length, length-map}
@@ -22,7 +22,7 @@ use Rattle.rank.specs.Section.{uniform, bitsOf, ranksOf, kSum}
 use Rattle.rank.specs.SectionLaws.{point-back, k-sum}
 use Rattle.rows.specs.Vectors.{below-up}
 use Rattle.trellis.specs.Code as code
-use Rattle.tetra.specs.PointLaws.{point-at}
+use Rattle.tetra.specs.PointLaws.{point-at, even-times, drop-even, weight-same}
 use Rattle.search.specs.declared.Closed.{Closed}
 use Rattle.search.specs.Record.{bitAt}
 use Rattle.search.specs.Bound.{lexNum, lexOf, holds}
@@ -168,7 +168,7 @@ k-sum-is (y ∷ t) =
     last a b = omega arith
 
 -- ---- eight coordinates of one parity, with the bits of byte c of even weight, and ranks below 8
-module _ (p c : ℕ) (hp : p < 2) (t : List ℤ) (e : length t ≡ 8) (u : T (uniform p t)) (q : bitsOf t ≡ c) (s : T (ranksBelow 8 (ranksOf t)))
+module _ (p c : ℕ) (t : List ℤ) (e : length t ≡ 8) (u : T (uniform p t)) (q : bitsOf t ≡ c) (s : T (ranksBelow 8 (ranksOf t)))
     (x : ℕ → ℤ) (a : (j : ℕ) → j < 8 → x j ≡ getD t j (pos 0)) where
   size : length (ranksOf t) ≡ 8
   size = length-map t rankOf ∙ e
@@ -198,13 +198,4 @@ module _ (p c : ℕ) (hp : p < 2) (t : List ℤ) (e : length t ≡ 8) (u : T (un
       ∙ ap (sumTo (λ j. modZ (kOf (getD t j (pos 0))) 2)) (sym e))
       ∙ sym (k-sum-is t) ∙ k-sum p t u s
       ∙ ap₂ (λ (m b : ℕ). (kZero (ranksOf t) + p * weight m b) % 2) e q
-      ∙ drop-even (kZero (ranksOf t)) p (weight 8 c) hp (ap (λ (n : ℕ). n % 2) (weight-same 8 c) ∙ even)
-    where
-      weight-same : (d w : ℕ) → weight d w ≡ code.weight d w
-      weight-same zero w = refl
-      weight-same (suc d) w = ap (λ (n : ℕ). w % 2 + n) (weight-same d (w / 2))
-
-      drop-even : (n p m : ℕ) → p < 2 → m % 2 ≡ 0 → (n + p * m) % 2 ≡ n % 2
-      drop-even n zero m h k = ap (λ (z : ℕ). (n + z) % 2) (zero-mul m) ∙ omega arith
-      drop-even n (suc zero) m h k = ap (λ (z : ℕ). (n + z) % 2) (one-mul m) ∙ omega arith
-      drop-even n (suc (suc p)) m h k = absurd (omega arith)
+      ∙ drop-even (kZero (ranksOf t)) (p * weight 8 c) (even-times p (weight 8 c) (ap (λ (n : ℕ). n % 2) (weight-same 8 c) ∙ even))

@@ -7,6 +7,7 @@ use mathlib.Core.List.{List}
 use Prim.Native.Nat.{ℕ, zero, suc, _+_, _-_, _*_, _/_, _%_, _≤_, _<_}
 use native.Mathlib.Nat.{le-refl, mod-lt, zero-lt-suc}
 use native.Mathlib.Omega.{arith}
+use borrow.Author.Tests.{eq-eqb, ne-eqb}
 use lib.Dec.{T, eqb, eqb→eq, lit≤}
 use lib.ListN.{getD}
 use lib.Signed.{ltZ}
@@ -26,7 +27,7 @@ use Rattle.search.specs.Solve.{otherOf, secondOf, fixOf, topTo, stepOf, movedD,
 use Rattle.nearest.specs.Statement.{oddK, sumTo, parK}
 use Rattle.nearest.specs.Sums.{sum-same, sum-set}
 use Rattle.nearest.specs.Ints.{odd-suc}
-use Rattle.nearest.specs.Base.{eqb-no, eqb-yes, par-is, worst-lt}
+use Rattle.nearest.specs.Base.{par-is, worst-lt}
 use Rattle.nearest.specs.Keys.{markK}
 use Rattle.nearest.specs.Shape.{oAt, Slots, Shape, shape-eq, slot-lt, now-shape, step-shape, two-shape, sum-two}
 
@@ -164,10 +165,10 @@ module _ (e : List Coord) where
           at false = +ℤ-idr (kE j)
 
       at-j0 : kT j0 ≡ slotK (kE j0) (towardOf (coordAt e j0 .dir))
-      at-j0 = ap (λ (b : Bool). slotK (kE j0) (cond b (towardOf (coordAt e j0 .dir)) 2)) (eqb-yes j0)
+      at-j0 = ap (λ (b : Bool). slotK (kE j0) (cond b (towardOf (coordAt e j0 .dir)) 2)) (eq-eqb j0 j0 refl)
 
       away : (j : ℕ) → j ≢ j0 → kT j ≡ kE j
-      away j d = ap (λ (b : Bool). slotK (kE j) (cond b (towardOf (coordAt e j0 .dir)) 2)) (eqb-no j j0 d) ∙ +ℤ-idr (kE j)
+      away j d = ap (λ (b : Bool). slotK (kE j) (cond b (towardOf (coordAt e j0 .dir)) 2)) (ne-eqb j j0 d) ∙ +ℤ-idr (kE j)
 
       other : (f g x y a r : ℕ) → f + y ≡ g + x → x + y ≡ 1 → a ≡ g % 2 → a ≢ r → r < 2 → f % 2 ≡ r
       other f g x y a r h k l m n = omega arith
@@ -181,7 +182,7 @@ module _ (e : List Coord) where
           (ap₂ (λ (a b : ℤ). oddK a + oddK b) at-j0 (sym (+ℤ-idr (kE j0)))
           ∙ adj-flip (kE j0) (towardOf (coordAt e j0 .dir)) 2 (mid-lt (toward-mid (coordAt e j0 .dir))) (lit≤ tt)
           (toward-adj (coordAt e j0 .dir)))
-          (par-is e 8) (λ (y : parTo e 8 ≡ want). subst T (sym (subst (λ (z : ℕ). eqb (parTo e 8) z ≡ true) y (eqb-yes (parTo e 8))) ∙ x) tt) W0
+          (par-is e 8) (λ (y : parTo e 8 ≡ want). subst T (sym (eq-eqb (parTo e 8) _ y) ∙ x) tt) W0
 
   pub fix-mid : (want j0 : ℕ) → Mid (fixOf e want j0)
   fix-mid want j0 = go (eqb (parTo e 8) want)
@@ -197,17 +198,17 @@ module _ (e : List Coord) (j0 fix i fj l f2 : ℕ) (D0 : i ≢ l) where
 
   pub pair-i : kM i ≡ slotK (coordAt e i .k0) fj
   unfolding kPair
-  pair-i = ap (λ (t : Bool). cond t (slotK (coordAt e i .k0) fj) (cond (eqb i l) (slotK (coordAt e l .k0) f2) (kBase e j0 fix i))) (eqb-yes i)
+  pair-i = ap (λ (t : Bool). cond t (slotK (coordAt e i .k0) fj) (cond (eqb i l) (slotK (coordAt e l .k0) f2) (kBase e j0 fix i))) (eq-eqb i i refl)
 
   pub pair-l : kM l ≡ slotK (coordAt e l .k0) f2
   unfolding kPair
   pair-l = ap (λ (t : Bool). cond t (slotK (coordAt e i .k0) fj) (cond (eqb l l) (slotK (coordAt e l .k0) f2) (kBase e j0 fix l)))
-      (eqb-no l i (λ (q : l ≡ i). D0 (sym q))) ∙ ap (λ (t : Bool). cond t (slotK (coordAt e l .k0) f2) (kBase e j0 fix l)) (eqb-yes l)
+      (ne-eqb l i (λ (q : l ≡ i). D0 (sym q))) ∙ ap (λ (t : Bool). cond t (slotK (coordAt e l .k0) f2) (kBase e j0 fix l)) (eq-eqb l l refl)
 
   pub pair-off : (j : ℕ) → j < 8 → j ≢ i → j ≢ l → kM j ≡ kBase e j0 fix j
   unfolding kPair
   pair-off j h x y = ap (λ (t : Bool). cond t (slotK (coordAt e i .k0) fj) (cond (eqb j l) (slotK (coordAt e l .k0) f2) (kBase e j0 fix j)))
-      (eqb-no j i x) ∙ ap (λ (t : Bool). cond t (slotK (coordAt e l .k0) f2) (kBase e j0 fix j)) (eqb-no j l y)
+      (ne-eqb j i x) ∙ ap (λ (t : Bool). cond t (slotK (coordAt e l .k0) f2) (kBase e j0 fix j)) (ne-eqb j l y)
 
   -- what each of its whole numbers has
   pub pair-each : (P : ℤ → Type 0) → P (slotK (coordAt e i .k0) fj) → P (slotK (coordAt e l .k0) f2) → (j : ℕ) → P (kBase e j0 fix j) → P (kM j)
@@ -273,10 +274,10 @@ module _ (p c : ℕ) (e : List Coord) (R : Slots p c e) where
       (ap (keySet (nowTo e 0 2 8 .key) jW) (R .rank-is jW to w8 t5 ∙ ap (markK (oAt p c jW)) (sym at-w)))
     where
       at-w : kBase e jW to jW ≡ slotK (coordAt e jW .k0) to
-      at-w = ap (λ (b : Bool). slotK (coordAt e jW .k0) (cond b to 2)) (eqb-yes jW)
+      at-w = ap (λ (b : Bool). slotK (coordAt e jW .k0) (cond b to 2)) (eq-eqb jW jW refl)
 
       off : (j : ℕ) → j < 8 → j ≢ jW → kBase e jW to j ≡ kBase e 0 2 j
-      off j h d = ap (λ (b : Bool). slotK (coordAt e j .k0) (cond b to 2)) (eqb-no j jW d) ∙ ap (slotK (coordAt e j .k0)) (sym (plain-slot j))
+      off j h d = ap (λ (b : Bool). slotK (coordAt e j .k0) (cond b to 2)) (ne-eqb j jW d) ∙ ap (slotK (coordAt e j .k0)) (sym (plain-slot j))
 
 -- ---- what is asked of the candidates on a row of records
 pub record Gives (Q : ℕ → Float → Type 0) (want : ℕ) (bound : Closed) (e : List Coord) : Type 0 where
@@ -370,7 +371,7 @@ module _ (Q : ℕ → Float → Type 0) (want : ℕ) (W0 : want < 2) (bound : Cl
           where
             go : (t : Bool) → (T t → j ≡ top .j0) → eqb j (top .j0) ≡ t → (cond t (top .j1) (top .j0) < 8) × (j ≢ cond t (top .j1) (top .j0))
             go true k q = (J .1, λ (z : j ≡ top .j1). J .2 (sym (k tt) ∙ z))
-            go false k q = (J .0, λ (z : j ≡ top .j0). subst T (sym (subst (λ (w : ℕ). eqb j w ≡ true) z (eqb-yes j)) ∙ q) tt)
+            go false k q = (J .0, λ (z : j ≡ top .j0). subst T (sym (eq-eqb j _ z) ∙ q) tt)
 
     moves-ok : (start : Best) → Ok start → (n : ℕ) → n ≤ 16 → Ok (movesTo e top fix bound now start n)
     unfolding movesTo

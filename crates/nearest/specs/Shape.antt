@@ -8,6 +8,7 @@ use Prim.Native.Nat.{ℕ, zero, suc, _+_, _-_, _*_, _/_, _%_, _^_, _≤_, _<_, z
 use native.Mathlib.Nat.{le-refl, le-trans, le-of-eq, le-of-lt, lt-of-le-of-lt, mul-le-mul, mod-lt, zero-lt-suc}
 use native.Mathlib.Omega.{arith}
 use native.Mathlib.Decide.{ℕ-discrete}
+use borrow.Author.Tests.{eq-eqb, ne-eqb, lt-ltb, le-ltb}
 use lib.Dec.{T, ltb, leb, eqb, ltb→lt, nltb→le, leb→le, nleb→lt, eqb→eq, lit≤}
 use lib.ListN.{getD}
 use lib.Bits.{bitOr, bitAnd, or-lt, and-le-l}
@@ -29,7 +30,6 @@ use Rattle.nearest.specs.Keys.{markK, rank-lt, rank-back, nib-put, nib-s
 use Rattle.nearest.specs.Statement.{sumTo}
 use Rattle.nearest.specs.Sums.{sum-set}
 use Rattle.nearest.specs.Ints.{add-parts, abs-parts, member-parts}
-use Rattle.nearest.specs.Base.{eqb-no, eqb-yes}
 
 abbrev pub oAt : ℕ → ℕ → ℕ → ℕ
 oAt p c j = p + 2 * bitAt c j
@@ -72,26 +72,6 @@ weight-le r h l = go (leb r 4) (leb→le r 4) (nleb→lt r 4)
         no : (x : ℕ) → 11 ≤ x → x * x ≤ 96 → ⊥
         no x m k = let y : 11 * 11 ≤ x * x = mul-le-mul m m in omega arith
 
-pub ltb-yes : (a b : ℕ) → a < b → ltb a b ≡ true
-ltb-yes a b h = go (ltb a b) (nltb→le a b)
-  where
-    go : (t : Bool) → (T (not t) → b ≤ a) → t ≡ true
-    go true k = refl
-    go false k = let l = k tt in absurd (clash l)
-      where
-        clash : b ≤ a → ⊥
-        clash l = omega arith
-
-pub ltb-no : (a b : ℕ) → b ≤ a → ltb a b ≡ false
-ltb-no a b h = go (ltb a b) (ltb→lt a b)
-  where
-    go : (t : Bool) → (T t → a < b) → t ≡ false
-    go true k = let l = k tt in absurd (clash l)
-      where
-        clash : a < b → ⊥
-        clash l = omega arith
-    go false k = refl
-
 zeros : T (upto 8 (λ i. eqb (rankAt 0 i) 0))
 zeros = tt
 
@@ -122,10 +102,10 @@ sum-two f g i l n hi hl d h =
     mid j = cond (eqb j i) (f i) (g j)
 
     off : (j : ℕ) → j ≢ i → mid j ≡ g j
-    off j m = ap (λ (t : Bool). cond t (f i) (g j)) (eqb-no j i m)
+    off j m = ap (λ (t : Bool). cond t (f i) (g j)) (ne-eqb j i m)
 
     mid-i : mid i ≡ f i
-    mid-i = ap (λ (t : Bool). cond t (f i) (g i)) (eqb-yes i)
+    mid-i = ap (λ (t : Bool). cond t (f i) (g i)) (eq-eqb i i refl)
 
     mid-l : mid l ≡ g l
     mid-l = off l (λ (q : l ≡ i). d (sym q))
@@ -141,17 +121,17 @@ pub pair-le : (g : ℕ → ℕ) (i l n : ℕ) → i < n → l < n → i ≢ l �
 pair-le g i l n hi hl d =
     go (sumTo f n) (sumTo g n) (g i + g l) (f i) (f l) at-i at-l
     (sum-two f g i l n hi hl d (λ j k x y.
-    ap (λ (t : Bool). cond t 0 (cond (eqb j l) 0 (g j))) (eqb-no j i x) ∙ ap (λ (t : Bool). cond t 0 (g j)) (eqb-no j l y)))
+    ap (λ (t : Bool). cond t 0 (cond (eqb j l) 0 (g j))) (ne-eqb j i x) ∙ ap (λ (t : Bool). cond t 0 (g j)) (ne-eqb j l y)))
   where
     f : ℕ → ℕ
     f j = cond (eqb j i) 0 (cond (eqb j l) 0 (g j))
 
     at-i : f i ≡ 0
-    at-i = ap (λ (t : Bool). cond t 0 (cond (eqb i l) 0 (g i))) (eqb-yes i)
+    at-i = ap (λ (t : Bool). cond t 0 (cond (eqb i l) 0 (g i))) (eq-eqb i i refl)
 
     at-l : f l ≡ 0
-    at-l = ap (λ (t : Bool). cond t 0 (cond (eqb l l) 0 (g l))) (eqb-no l i (λ (q : l ≡ i). d (sym q)))
-        ∙ ap (λ (t : Bool). cond t 0 (g l)) (eqb-yes l)
+    at-l = ap (λ (t : Bool). cond t 0 (cond (eqb l l) 0 (g l))) (ne-eqb l i (λ (q : l ≡ i). d (sym q)))
+        ∙ ap (λ (t : Bool). cond t 0 (g l)) (eq-eqb l l refl)
 
     go : (sf sg p a b : ℕ) → a ≡ 0 → b ≡ 0 → sf + p ≡ sg + (a + b) → p ≤ sg
     go sf sg p a b x y h = omega arith
@@ -271,11 +251,11 @@ module _ (p c : ℕ) (e : List Coord) (R : Slots p c e) (j0 fix : ℕ) (F0 : fix
 
   now-key : (n : ℕ) → n ≤ 8 → (i : ℕ) → i < 8 → rankAt (nowTo e j0 fix n .key) i ≡ cond (ltb i n) (markK (oAt p c i) (kS i)) 0
   unfolding nowTo
-  now-key zero h i l = nib-zero i l ∙ ap (λ (b : Bool). cond b (markK (oAt p c i) (kS i)) 0) (sym (ltb-no i 0 zero-le))
+  now-key zero h i l = nib-zero i l ∙ ap (λ (b : Bool). cond b (markK (oAt p c i) (kS i)) 0) (sym (le-ltb i 0 zero-le))
   now-key (suc n) h i l =
       ap (λ (x : ℕ). rankAt (bitOr (nowTo e j0 fix n .key) (x * 2 ^ (4 * n) % 4294967296)) i) (R .rank-is n (slotOf j0 fix n) h (slot-lt j0 fix n F0))
       ∙ nib-put (nowTo e j0 fix n .key) (markK (oAt p c n) (kS n)) n i (rank-lt (oAt p c n) (kS n)) h l
-      (λ (q : i ≡ n). now-key n (omega arith) i l ∙ ap (λ (b : Bool). cond b (markK (oAt p c i) (kS i)) 0) (ltb-no i n (le-of-eq (sym q))))
+      (λ (q : i ≡ n). now-key n (omega arith) i l ∙ ap (λ (b : Bool). cond b (markK (oAt p c i) (kS i)) 0) (le-ltb i n (le-of-eq (sym q))))
       ∙ go (ℕ-discrete i n) (now-key n (omega arith) i l)
     where
       go : Dec (i ≡ n) → rankAt (nowTo e j0 fix n .key) i ≡ cond (ltb i n) (markK (oAt p c i) (kS i)) 0
@@ -283,17 +263,17 @@ module _ (p c : ℕ) (e : List Coord) (R : Slots p c e) (j0 fix : ℕ) (F0 : fix
       go (yes q) r = subst (λ (z : ℕ).
           cond (eqb z n) (markK (oAt p c n) (kS n)) (rankAt (nowTo e j0 fix n .key) z) ≡ cond (ltb z (suc n)) (markK (oAt p c z) (kS z)) 0)
           (sym q)
-          (ap (λ (b : Bool). cond b (markK (oAt p c n) (kS n)) (rankAt (nowTo e j0 fix n .key) n)) (eqb-yes n)
-          ∙ ap (λ (b : Bool). cond b (markK (oAt p c n) (kS n)) 0) (sym (ltb-yes n (suc n) (le-refl (suc n)))))
-      go (no d) r = ap (λ (b : Bool). cond b (markK (oAt p c n) (kS n)) (rankAt (nowTo e j0 fix n .key) i)) (eqb-no i n d) ∙ r
+          (ap (λ (b : Bool). cond b (markK (oAt p c n) (kS n)) (rankAt (nowTo e j0 fix n .key) n)) (eq-eqb n n refl)
+          ∙ ap (λ (b : Bool). cond b (markK (oAt p c n) (kS n)) 0) (sym (lt-ltb n (suc n) (le-refl (suc n)))))
+      go (no d) r = ap (λ (b : Bool). cond b (markK (oAt p c n) (kS n)) (rankAt (nowTo e j0 fix n .key) i)) (ne-eqb i n d) ∙ r
           ∙ ap (λ (b : Bool). cond b (markK (oAt p c i) (kS i)) 0) (same-ltb (ltb i n) (ltb→lt i n) (nltb→le i n) refl)
         where
           same-ltb : (t : Bool) → (T t → i < n) → (T (not t) → n ≤ i) → ltb i n ≡ t → ltb i n ≡ ltb i (suc n)
-          same-ltb true a b q = q ∙ sym (ltb-yes i (suc n) (up (a tt)))
+          same-ltb true a b q = q ∙ sym (lt-ltb i (suc n) (up (a tt)))
             where
               up : i < n → i < suc n
               up h = omega arith
-          same-ltb false a b q = q ∙ sym (ltb-no i (suc n) (over (b tt)))
+          same-ltb false a b q = q ∙ sym (le-ltb i (suc n) (over (b tt)))
             where
               over : n ≤ i → suc n ≤ i
               over h = omega arith
@@ -308,7 +288,7 @@ module _ (p c : ℕ) (e : List Coord) (R : Slots p c e) (j0 fix : ℕ) (F0 : fix
   now-shape = record {
     cost-is = now-cost 8 (le-refl 8);
     key-lt = now-lt 8;
-    key-is = λ j h. now-key 8 (le-refl 8) j h ∙ ap (λ (b : Bool). cond b (markK (oAt p c j) (kS j)) 0) (ltb-yes j 8 h);
+    key-is = λ j h. now-key 8 (le-refl 8) j h ∙ ap (λ (b : Bool). cond b (markK (oAt p c j) (kS j)) 0) (lt-ltb j 8 h);
   }
 
 -- ---- one coordinate stepped
@@ -336,8 +316,8 @@ module _ (p c : ℕ) (k k' : ℕ → ℤ) (i : ℕ) (I0 : i < 8) (K0 : (j : ℕ)
         where
           go : Dec (j ≡ i) → cond (eqb j i) (markK o (k' i)) (rankAt key j) ≡ markK (oAt p c j) (k' j)
           go (yes q) = subst (λ (z : ℕ). cond (eqb z i) (markK o (k' i)) (rankAt key z) ≡ markK (oAt p c z) (k' z)) (sym q)
-              (ap (λ (b : Bool). cond b (markK o (k' i)) (rankAt key i)) (eqb-yes i))
-          go (no d) = ap (λ (b : Bool). cond b (markK o (k' i)) (rankAt key j)) (eqb-no j i d) ∙ C .key-is j h
+              (ap (λ (b : Bool). cond b (markK o (k' i)) (rankAt key i)) (eq-eqb i i refl))
+          go (no d) = ap (λ (b : Bool). cond b (markK o (k' i)) (rankAt key j)) (ne-eqb j i d) ∙ C .key-is j h
               ∙ ap (markK (oAt p c j)) (sym (K0 j h d))
 
 -- ---- two coordinates stepped at once
@@ -367,13 +347,13 @@ module _ (p c : ℕ) (k k' : ℕ → ℤ) (i l : ℕ) (I0 : i < 8) (L0 : l < 8) 
           go : Dec (j ≡ i) → Dec (j ≡ l)
               → cond (eqb j i) (markK (oAt p c i) (k' i)) (cond (eqb j l) (markK (oAt p c l) (k' l)) (rankAt key j)) ≡ markK (oAt p c j) (k' j)
           go (yes q) m = ap (λ (t : Bool). cond t (markK (oAt p c i) (k' i)) (cond (eqb j l) (markK (oAt p c l) (k' l)) (rankAt key j)))
-              (subst (λ (z : ℕ). eqb j z ≡ true) q (eqb-yes j)) ∙ ap (λ (z : ℕ). markK (oAt p c z) (k' z)) (sym q)
+              (eq-eqb j _ q) ∙ ap (λ (z : ℕ). markK (oAt p c z) (k' z)) (sym q)
           go (no d) (yes q) = ap (λ (t : Bool).
-              cond t (markK (oAt p c i) (k' i)) (cond (eqb j l) (markK (oAt p c l) (k' l)) (rankAt key j))) (eqb-no j i d)
-              ∙ ap (λ (t : Bool). cond t (markK (oAt p c l) (k' l)) (rankAt key j)) (subst (λ (z : ℕ). eqb j z ≡ true) q (eqb-yes j))
+              cond t (markK (oAt p c i) (k' i)) (cond (eqb j l) (markK (oAt p c l) (k' l)) (rankAt key j))) (ne-eqb j i d)
+              ∙ ap (λ (t : Bool). cond t (markK (oAt p c l) (k' l)) (rankAt key j)) (eq-eqb j _ q)
               ∙ ap (λ (z : ℕ). markK (oAt p c z) (k' z)) (sym q)
           go (no d) (no e) = ap (λ (t : Bool). cond t (markK (oAt p c i) (k' i)) (cond (eqb j l) (markK (oAt p c l) (k' l)) (rankAt key j)))
-              (eqb-no j i d) ∙ ap (λ (t : Bool). cond t (markK (oAt p c l) (k' l)) (rankAt key j)) (eqb-no j l e) ∙ C .key-is j h
+              (ne-eqb j i d) ∙ ap (λ (t : Bool). cond t (markK (oAt p c l) (k' l)) (rankAt key j)) (ne-eqb j l e) ∙ C .key-is j h
               ∙ ap (markK (oAt p c j)) (sym (K0 j h d e))
 
 -- ---- the distance of all eight is their section's, summed afresh
