@@ -2,7 +2,7 @@
 """Runs the program unpage on pages, good and damaged, and holds it to answers that are worked out here from document 01.
 
     tests/pages.py                  runs target/bin/unpage on every page
-    tests/pages.py --oracle ORACLE  also puts each word of the good pages to a program over the Rust, which has to decode it as here
+    tests/pages.py --oracle ORACLE  also puts each word of the pages to a program over the Rust, which has to decode it as here
     tests/pages.py --write          writes what the gate runs page_runs on, and its answers: crates/page_runs/stdin and stdout
     tests/pages.py --check          says whether those two files are the ones that --write writes
 
@@ -187,13 +187,14 @@ def damaged():
         yield f"num {num[:20]}", EXAMPLE.replace(b"num=128", b"num=" + num.encode())
     for count in ["0", "2", "00", "01", "001", "65", "-0", "+0", "-1", "", "256", "257", "4294967297", "18446744073709551617", "1.", "one"]:
         yield f"count {count}", EXAMPLE.replace(b"count=1", b"count=" + count.encode())
-    for word in ["00000000001", "0000000000001", "00000000000g", "00000000000A", "0x0000000001", "-00000000001", "000000 00001", "000000000001 2",
-                 "000000000001\t", "00000000000", "", "0000000000001\nword=000000000001", "00000000000:", "00000000000/", "00000000000`", "00000000000@"]:
+    for word in ["00000000001", "0000000000001", "00000000000g", "00000000000A", "0x0000000001", "-00000000001", "000000 00001",
+                 "000000000001 2", "000000000001\t", "00000000000", "", "0000000000001\nword=000000000001", "00000000000:", "00000000000/",
+                 "00000000000`", "00000000000@"]:
         yield f"word {word}", EXAMPLE.replace(b"000000000001", word.encode())
     sixty_four = text_of(65535, list(range(64)))
     for name, text in [("the example", EXAMPLE), ("64 blocks", sixty_four), ("no blocks", text_of(1, []))]:
-        for what, more in [("LF", b"\n"), ("a space", b" "), ("a NUL", b"\0"), ("a word line", b"word=000000000000\n"), ("itself", text), ("a byte 26", b"\x1a"),
-                           ("1 MiB of zeros", bytes(1 << 20)), ("a key", b"end=\n")]:
+        for what, more in [("LF", b"\n"), ("a space", b" "), ("a NUL", b"\0"), ("a word line", b"word=000000000000\n"), ("itself", text),
+                           ("a byte 26", b"\x1a"), ("1 MiB of zeros", bytes(1 << 20)), ("a key", b"end=\n")]:
             yield f"{name} and {what}", text + more
         yield f"{name} without the last LF", text[:-1]
         yield f"{name} with CR LF", text.replace(b"\n", b"\r\n")
@@ -213,9 +214,9 @@ def damaged():
 
 def for_the_gate():
     rng = random.Random(2)
-    return [EXAMPLE, text_of(1, []), text_of(65535, words(rng, 64)), text_of(640, [1, 256]), text_of(129, [(1 << 48) - 1]), EXAMPLE[:-1], EXAMPLE + b"\n",
-            EXAMPLE.replace(b"128", b"0128"), EXAMPLE.replace(b"128", b"0"), EXAMPLE.replace(b"128", b"65536"), LETTERS.replace(b"abc", b"ABC"),
-            EXAMPLE.replace(b"\n", b"\r\n"), text_of(1, list(range(65))), text_of(1, [0], 2), b""]
+    return [EXAMPLE, text_of(1, []), text_of(65535, words(rng, 64)), text_of(640, [1, 256]), text_of(129, [(1 << 48) - 1]), EXAMPLE[:-1],
+            EXAMPLE + b"\n", EXAMPLE.replace(b"128", b"0128"), EXAMPLE.replace(b"128", b"0"), EXAMPLE.replace(b"128", b"65536"),
+            LETTERS.replace(b"abc", b"ABC"), EXAMPLE.replace(b"\n", b"\r\n"), text_of(1, list(range(65))), text_of(1, [0], 2), b""]
 
 
 def gate_files():
@@ -248,9 +249,9 @@ def run(name, text, program):
     return got == want
 
 
-def ask(oracle, pages):
-    """Each word of the pages, decoded by the oracle as here."""
-    asked = sorted({word for _, text in pages for word in (reading(text) or (0, []))[1]})
+def ask(oracle, texts):
+    """Each word of the texts that are pages, decoded by the oracle as here."""
+    asked = sorted({word for text in texts for word in (reading(text) or (0, []))[1]})
     requests = "".join(f"decode {word:x}\n" for word in asked)
     got = subprocess.run([oracle], input=requests, stdout=subprocess.PIPE, check=True, text=True).stdout.split("\n")[:-1]
     same = got == ["point=" + ",".join(map(str, point(word))) for word in asked]
@@ -266,7 +267,7 @@ def main(arguments):
         return False
     program = os.environ.get("RUN", "").split() + [os.environ.get("UNPAGE", os.path.join(ROOT, "target", "bin", "unpage"))]
     fine, broken = list(good()), list(damaged())
-    alike = ask(arguments[1], fine) if arguments else True
+    alike = ask(arguments[1], [text for _, text in fine + broken] + for_the_gate()) if arguments else True
     answers = {}
     for name, text in fine + broken:
         alike = run(name, text, program) and alike

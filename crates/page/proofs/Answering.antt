@@ -1,8 +1,8 @@
 -- What `parse` answers, what `read` makes of it, and what `unpage` prints. Assumes nothing.
 use mathlib.Core.Path.{_≡_, refl, ap, sym, _∙_}
 use mathlib.Core.Bool.{Bool, true, false, cond}
-use mathlib.Core.List.{List, [], _∷_, _++_}
-use Prim.Native.Nat.{ℕ, _+_, _*_, _-_, _<_, _≤_}
+use mathlib.Core.List.{List, _++_}
+use Prim.Native.Nat.{ℕ, _+_, _*_, _-_, _≤_}
 use native.Mathlib.Omega.{arith}
 use borrow.Author.Tests.{le-ltb}
 use lib.Dec.{ltb}
@@ -11,7 +11,6 @@ use lib.ListN.{length, take, drop, replicate}
 use lib.Seq.{take-append-seam, sets, sets-eq}
 use Rattle.page.specs.declared.Parsed.{Parsed}
 use Rattle.page.specs.declared.PageRead.{PageRead}
-use Rattle.page.specs.Page.{Page}
 use Rattle.page.specs.Answer.{Reading, page, malformed, parsedOf, readOf, cellsOf}
 use Rattle.page.specs.Counts.{pageCounts}
 use Rattle.page.specs.CountLaws.{page-length}
@@ -63,7 +62,8 @@ module _ (R : Reading) (num : ℕ) (words : List ℕ) (count : ℕ) where
       let l : 24 * length words ≤ cells = omega arith in
       rw (e, le-ltb cells (24 * length words) l, n)
 
-  pub stored : (old : List ℤ) → R ≡ page num words → count ≡ length words → 24 * count ≤ length old → sets old 0 (pageCounts num words) ≡ cellsOf R old
+  pub stored : (old : List ℤ) → R ≡ page num words → count ≡ length words → 24 * count ≤ length old
+      → sets old 0 (pageCounts num words) ≡ cellsOf R old
   unfolding cellsOf
   stored old e n h =
       let l : 24 * length words ≤ length old = omega arith in

@@ -1,10 +1,10 @@
 -- What a count is: the nearest whole number, by magnitude and sign, a half away from zero. And how many there are. Assumes nothing.
 use mathlib.Core.Path.{_≡_, refl, ap, _∙_}
 use mathlib.Core.List.{List, [], _∷_}
-use Prim.Native.Nat.{ℕ, zero, suc, _+_, _*_, _-_, _/_, _<_, _≤_}
+use Prim.Native.Nat.{ℕ, zero, suc, _+_, _*_, _<_, _≤_}
 use native.Mathlib.Omega.{arith}
 use lib.ListN.{length, length-map, length-append}
-use lib.IntN.{ℤ, pos, negsuc, negℤ, _*ℤ_, natAbs, pos-*ℤ-pos, negsuc-*ℤ-pos}
+use lib.IntN.{ℤ, pos, negsuc, negℤ, pos-*ℤ-pos, negsuc-*ℤ-pos}
 use Rattle.tetra.specs.Tetra.{pointOf}
 use Rattle.tetra.specs.Demand2.{point-length}
 use Rattle.page.specs.Counts.{nearest, rounded, countOf, blockCounts, pageCounts}

@@ -2,7 +2,6 @@
 use mathlib.Core.Path.{_≡_}
 use mathlib.Core.List.{List, [], _∷_, _++_}
 use Prim.Native.Nat.{ℕ, _^_, _<_, _≤_}
-use Prim.Native.String.{String}
 use lib.ListN.{length, getD}
 use Rattle.page.specs.Text.{bytes, decimal, hex}
 

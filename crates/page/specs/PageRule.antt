@@ -14,10 +14,10 @@ use Rattle.page.specs.declared.line.Line.{Line}
 use Rattle.page.specs.declared.line.Line.the-variants.{Good, Bad}
 use Rattle.page.specs.Text.{bytes, decimal}
 use Rattle.page.specs.TextLaws.{decimal-fits}
-use Rattle.page.specs.Page.{Page, line, formatLine, numLine, countLine, wordLine, wordLines, pageText}
+use Rattle.page.specs.Page.{Page, formatLine, numLine, countLine, wordLine, wordLines, pageText}
 use Rattle.page.specs.Counts.{pageCounts}
 use Rattle.page.specs.Answer.{Reading, page, malformed, readOf, cellsOf}
-use Rattle.page.specs.Reader.{onLine, formatAt, decimalLineAt, wordLineAt, withWord, wordsAt, countAt, numAt, readingOf}
+use Rattle.page.specs.Reader.{onLine, formatAt, wordLineAt, withWord, wordsAt, countAt, numAt, readingOf}
 use Rattle.page.specs.ReaderLaws.{LineRule, format-rule, decimal-rule, word-rule, word-length}
 
 -- each word fits 48 bits
@@ -27,6 +27,10 @@ Fit words = (k : ℕ) → k < length words → getD words k 0 < 2 ^ 48
 fit-cons : (w : ℕ) (ws : List ℕ) → w < 2 ^ 48 → Fit ws → Fit (w ∷ ws)
 fit-cons w ws h f zero l = h
 fit-cons w ws h f (suc k) l = f k (le-of-suc-le-suc l)
+
+-- ---- each num and each list of words within the bounds have a page
+pub page-of : (num : ℕ) (words : List ℕ) → 1 ≤ num → num ≤ 65535 → length words ≤ 64 → Fit words → Page (pageText num words) num words
+page-of num words a b c f = record { num-least = a; num-most = b; count-most = c; words-fit = f; text-is = refl }
 
 -- ---- from a page to its reading
 -- a line that is there is taken off
@@ -135,7 +139,7 @@ one-reading text R S r s = sym (same R r) ∙ same S s
         go (page num words) e = absurd (r num words (only-pages text num words e))
         go malformed e = refl
 
--- one num with one list of words has one text, and one text one num and one list of words
+-- one text has at most one num and one list of words. (One num with one list of words has one text, `pageText`, by definition)
 pub one-page : (text : List ℕ) (num x : ℕ) (words ws : List ℕ) → Page text num words → Page text x ws → (num ≡ x) × (words ≡ ws)
 one-page text num x words ws p q =
     let e = one-reading text (page num words) (page x ws) p q in

@@ -1,6 +1,7 @@
--- What the reader answers for each text. Page.antt says what a page is; PageRule.antt proves that this reader accepts just the pages. Assumes nothing.
-use mathlib.Core.Bool.{Bool, true, false, cond, _&&_, _||_}
-use mathlib.Core.List.{List, [], _∷_, _++_}
+-- What the reader answers for each text, line by line. Page.antt says what a page is; PageRule.antt proves that this reader accepts just
+-- the pages. Assumes nothing.
+use mathlib.Core.Bool.{Bool, true, false, cond, _&&_}
+use mathlib.Core.List.{List, [], _∷_}
 use Prim.Native.Nat.{ℕ, zero, suc, _+_, _*_, _-_}
 use lib.Dec.{ltb, leb, eqb}
 use lib.ListN.{length, drop, getD}

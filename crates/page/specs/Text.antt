@@ -1,5 +1,5 @@
 -- Texts as lists of bytes: a quoted text, a number in decimal, a number in hexadecimal. Assumes nothing.
-use mathlib.Core.Bool.{Bool, true, false, cond}
+use mathlib.Core.Bool.{cond}
 use mathlib.Core.List.{List, [], _∷_, _++_}
 use Prim.Native.Nat.{ℕ, zero, suc, _+_, _/_, _%_}
 use Prim.Native.Char.{code}
@@ -13,7 +13,7 @@ bytes quoted.[] = []
 bytes (quoted._∷_ c s) = code c ∷ bytes s
 
 -- ---- decimal: no sign, no leading zero except 0 itself
--- n < 10 is one digit; any other n is n / 10 with the digit n % 10 behind it. f is at least the number of digits
+-- 48 is the byte of the digit 0. n < 10 is one digit; any other n is n / 10 with the digit n % 10 behind it. f is at least the number of digits
 abbrev pub decimalBy : ℕ → ℕ → List ℕ
 decimalBy zero n = []
 decimalBy (suc f) n = cond (ltb n 10) ((48 + n) ∷ []) (decimalBy f (n / 10) ++ ((48 + n % 10) ∷ []))
@@ -21,7 +21,7 @@ decimalBy (suc f) n = cond (ltb n 10) ((48 + n) ∷ []) (decimalBy f (n / 10) ++
 unfoldable pub decimal : ℕ → List ℕ
 decimal n = decimalBy (suc n) n
 
--- ---- hexadecimal, lower case: the last k digits of n, the most significant first
+-- ---- hexadecimal, lower case: the last k digits of n, the most significant first. The letter a, the byte 97, is the digit ten
 abbrev pub hexDigit : ℕ → ℕ
 hexDigit d = cond (ltb d 10) (48 + d) (87 + d)
 

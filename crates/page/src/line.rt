@@ -1,7 +1,7 @@
 // The lines of a page. Each reader looks at the start of a text and answers whether its line stands there.
 ghost use mathlib.Core.Path.{_≡_};
 ghost use Prim.Native.Nat.{_<_, _≤_};
-ghost use lib.ListN.{length, getD};
+ghost use lib.ListN.{getD};
 ghost use Rattle.page.specs.Reader.{begins, digitAt, hexAt, decimalAt, formatAt, decimalLineAt, wordLineAt};
 
 // A line's answer: its value and how many bytes it takes, its end included; or no such line.
@@ -43,20 +43,20 @@ fn starts(s: &[u8], key: &[u8]) -> bool
     true
 }
 
-// A lower-case hexadecimal digit.
+// A lower-case hexadecimal digit: a, which is 97, stands for 10.
 fn digit_of(b: u8) -> Digit
     ensures { λ r. ⌜ r ≡ digitAt b ⌝ }
 {
-    if b < 48 {
+    if b < b'0' {
         return Digit::Other;
     }
-    if b <= 57 {
-        return Digit::Value((b - 48) as u64);
+    if b <= b'9' {
+        return Digit::Value((b - b'0') as u64);
     }
-    if b < 97 {
+    if b < b'a' {
         return Digit::Other;
     }
-    if b <= 102 {
+    if b <= b'f' {
         return Digit::Value((b - 87) as u64);
     }
     Digit::Other
@@ -87,19 +87,19 @@ fn decimal(s: &[u8], most: u64) -> Line
     let mut j: usize = 0;
     while j < s.len() {
         let b = s[j];
-        if b == 10 {
+        if b == b'\n' {
             if j == 0 {
                 return Line::Bad;
             }
             return Line::Good(v, j + 1);
         }
-        if b < 48 {
+        if b < b'0' {
             return Line::Bad;
         }
-        if 57 < b {
+        if b'9' < b {
             return Line::Bad;
         }
-        let next = v * 10 + ((b - 48) as u64);
+        let next = v * 10 + ((b - b'0') as u64);
         if most < next {
             return Line::Bad;
         }
@@ -150,7 +150,7 @@ pub(crate) fn word_line(s: &[u8]) -> Line
     let Digit::Value(w) = hex(&s[5..]) else {
         return Line::Bad;
     };
-    if byte_at(s, 17) != 10 {
+    if byte_at(s, 17) != b'\n' {
         return Line::Bad;
     }
     Line::Good(w, 18)

@@ -33,11 +33,11 @@ fn put_decimal(out: &mut [u8], at: usize, n: u64) -> usize
     ensures { λ r. ⌜ (r ≡ at + length (decimal n)) × (now (out .exit) ≡ sets (now (out .entry)) at (decimal n)) ⌝ }
 {
     if n < 10 {
-        out[at] = 48 + (n as u8);
+        out[at] = b'0' + (n as u8);
         return at + 1;
     }
     let next = put_decimal(out, at, n / 10);
-    out[next] = 48 + ((n % 10) as u8);
+    out[next] = b'0' + ((n % 10) as u8);
     next + 1
 }
 
@@ -47,7 +47,7 @@ fn put_signed(out: &mut [u8], at: usize, z: i32) -> usize
 {
     let m = magnitude(z);
     if z < 0 {
-        out[at] = 45;
+        out[at] = b'-';
         return put_decimal(out, at + 1, m);
     }
     put_decimal(out, at, m)
@@ -70,7 +70,8 @@ fn put_counts(out: &mut [u8], at: usize, counts: [i32; 24]) -> usize
 // The two lines of a block: its index, and its counts.
 fn put_lines(out: &mut [u8], at: usize, index: usize, counts: [i32; 24]) -> usize
     requires { ⌜ at + 323 ≤ length (now out) ⌝ }
-    ensures { λ r. ⌜ (r ≡ at + length (blockText index counts)) × (r ≤ at + 323) × (now (out .exit) ≡ sets (now (out .entry)) at (blockText index counts)) ⌝ }
+    ensures { λ r. ⌜ (r ≡ at + length (blockText index counts)) × (r ≤ at + 323) ×
+        (now (out .exit) ≡ sets (now (out .entry)) at (blockText index counts)) ⌝ }
 {
     let a = put(out, at, b"block=");
     let b = put_decimal(out, a, index as u64);
@@ -96,7 +97,8 @@ fn counts_at(counts: &[i32], at: usize) -> [i32; 24]
 // The lines of all blocks, from the start on.
 fn put_all(out: &mut [u8], counts: &[i32], count: usize) -> usize
     requires { ⌜ (24 * count ≤ length (now counts)) × (323 * count ≤ length (now out)) ⌝ }
-    ensures { λ r. ⌜ (r ≡ length (blockTexts 0 count (now (counts .entry)))) × (r ≤ 323 * count) × (now (out .exit) ≡ sets (now (out .entry)) 0 (blockTexts 0 count (now (counts .entry)))) ⌝ }
+    ensures { λ r. ⌜ (r ≡ length (blockTexts 0 count (now (counts .entry)))) × (r ≤ 323 * count) ×
+        (now (out .exit) ≡ sets (now (out .entry)) 0 (blockTexts 0 count (now (counts .entry)))) ⌝ }
 {
     let mut at: usize = 0;
     let mut i: usize = 0;

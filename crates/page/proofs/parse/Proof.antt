@@ -5,7 +5,7 @@ use mathlib.Core.Path.{_≡_, sym, ap, _∙_}
 use mathlib.Core.List.{List}
 use Prim.Native.Nat.{ℕ, _-_, _≤_}
 use lib.ListN.{length, take, drop}
-use Rattle.page.specs.declared.line.Line.the-variants.{Good, Bad}
+use Rattle.page.specs.declared.line.Line.the-variants.{Good}
 use Rattle.page.specs.Text.{bytes}
 use Rattle.page.specs.Answer.{parsedOf}
 use Rattle.page.specs.Reader.{formatAt, decimalLineAt, numAt, countAt, wordsAt, readingOf}
@@ -71,28 +71,38 @@ enum-told-2 c = search needs
 refused-requires-2 : tie.Need-refused-requires-2
 refused-requires-2 c κs = search needs
 
+-- what is read behind the format line
+one : (c : tie.After-a) → readingOf (text c) ≡ numAt (part1 c)
+unfolding readingOf
+one c = rw (first c) (ap numAt (sym (tail (text c) (n1 c))))
+
 returns-2 : tie.Need-returns-2
-unfolding parsedOf readingOf numAt
+unfolding parsedOf numAt
 returns-2 c =
-    let o = c .before .before .before .before .before .before .before in
-    let e = ap (decimalLineAt (bytes "num=") 1 65535) (sym (tail (text o) (n1 o))) ∙ sym (c .before .before .before .decimal-line .ensures) ∙ c .before .enum-told2 .given .1 in
-    c .refused2 .ensures ∙ rw (first o, e)
+    let e = sym (c .before .before .before .decimal-line .ensures) ∙ c .before .enum-told2 .given .1 in
+    c .refused2 .ensures ∙ rw (one (c .before .before .before .before .before .before .before), e)
 
 -- ---- the num line is there
+abbrev behind-a : tie.After-num → tie.After-a
+behind-a c = c .before .before .before .before .before .before
+
 abbrev n2 : tie.After-num → ℕ
 n2 c = c .num .given .0 .1 .0
 
 abbrev part2 : tie.After-num → List ℕ
-part2 c = take (length (part1 (c .before .before .before .before .before .before)) - n2 c) (drop (n2 c) (part1 (c .before .before .before .before .before .before)))
+part2 c = take (length (part1 (behind-a c)) - n2 c) (drop (n2 c) (part1 (behind-a c)))
 
-second : (c : tie.After-num) → decimalLineAt (bytes "num=") 1 65535 (part1 (c .before .before .before .before .before .before)) ≡ Good (c .num .given .0 .0) (n2 c)
+second : (c : tie.After-num) → decimalLineAt (bytes "num=") 1 65535 (part1 (behind-a c)) ≡ Good (c .num .given .0 .0) (n2 c)
 second c = sym (c .before .before .decimal-line .ensures) ∙ c .num .given .1
 
+fits2 : (c : tie.After-num) → n2 c ≤ length (part1 (behind-a c))
+fits2 c = line-fits _ _ _ (decimal-rule (bytes "num=") 1 65535) (part1 (behind-a c)) _ _ (second c)
+
 sub-t : tie.Need-sub-t
-sub-t c = line-fits _ _ _ (decimal-rule (bytes "num=") 1 65535) (part1 (c .before .before .before .before .before .before .before)) _ _ (second (c .before))
+sub-t c = fits2 (c .before)
 
 part-t-start : tie.Need-part-t-start
-part-t-start c = line-fits _ _ _ (decimal-rule (bytes "num=") 1 65535) (part1 (c .before .before .before .before .before .before .before)) _ _ (second (c .before))
+part-t-start c = fits2 (c .before)
 
 part-t-end : tie.Need-part-t-end
 part-t-end c = search needs
@@ -113,12 +123,10 @@ refused-requires-3 : tie.Need-refused-requires-3
 refused-requires-3 c κs = search needs
 
 -- what is read behind two lines that are there
-two : (c : tie.After-num) → readingOf (text (c .before .before .before .before .before .before)) ≡ countAt (c .num .given .0 .0) (part2 c)
-unfolding readingOf numAt
+two : (c : tie.After-num) → readingOf (text (behind-a c)) ≡ countAt (c .num .given .0 .0) (part2 c)
+unfolding numAt
 two c =
-    let o = c .before .before .before .before .before .before in
-    let e = ap (decimalLineAt (bytes "num=") 1 65535) (sym (tail (text o) (n1 o))) ∙ second c in
-    rw (first o, e) (ap (countAt (c .num .given .0 .0)) (sym (tail (part1 o) (n2 c) ∙ ap (drop (n2 c)) (tail (text o) (n1 o)))))
+    one (behind-a c) ∙ rw (second c) (ap (countAt (c .num .given .0 .0)) (sym (tail (part1 (behind-a c)) (n2 c))))
 
 returns-3 : tie.Need-returns-3
 unfolding parsedOf countAt
@@ -127,33 +135,48 @@ returns-3 c =
     c .refused3 .ensures ∙ rw (two (c .before .before .before .before .before .before .before), e)
 
 -- ---- the count line is there
+abbrev behind-num : tie.After-count → tie.After-num
+behind-num c = c .before .before .before .before .before .before
+
 abbrev n3 : tie.After-count → ℕ
 n3 c = c .count .given .0 .1 .0
 
-third : (c : tie.After-count) → decimalLineAt (bytes "count=") 0 64 (part2 (c .before .before .before .before .before .before)) ≡ Good (c .count .given .0 .0) (n3 c)
+abbrev part3 : tie.After-count → List ℕ
+part3 c = take (length (part2 (behind-num c)) - n3 c) (drop (n3 c) (part2 (behind-num c)))
+
+third : (c : tie.After-count) → decimalLineAt (bytes "count=") 0 64 (part2 (behind-num c)) ≡ Good (c .count .given .0 .0) (n3 c)
 third c = sym (c .before .before .decimal-line2 .ensures) ∙ c .count .given .1
 
+fits3 : (c : tie.After-count) → n3 c ≤ length (part2 (behind-num c))
+fits3 c = line-fits _ _ _ (decimal-rule (bytes "count=") 0 64) (part2 (behind-num c)) _ _ (third c)
+
 sub-words-of : tie.Need-sub-words-of
-sub-words-of c = line-fits _ _ _ (decimal-rule (bytes "count=") 0 64) (part2 (c .before .before .before .before .before .before .before)) _ _ (third (c .before))
+sub-words-of c = fits3 (c .before)
 
 part-words-of-start : tie.Need-part-words-of-start
-part-words-of-start c = line-fits _ _ _ (decimal-rule (bytes "count=") 0 64) (part2 (c .before .before .before .before .before .before .before)) _ _ (third (c .before))
+part-words-of-start c = fits3 (c .before)
 
 part-words-of-end : tie.Need-part-words-of-end
 part-words-of-end c = search needs
 
+-- the two numbers are within their bounds
+num-most : (c : tie.After-num) → c .num .given .0 .0 ≤ 65535
+num-most c = decimal-rule (bytes "num=") 1 65535 .only (part1 (behind-a c)) _ _ (second c) .0 .1
+
+count-most : (c : tie.After-count) → c .count .given .0 .0 ≤ 64
+count-most c = decimal-rule (bytes "count=") 0 64 .only (part2 (behind-num c)) _ _ (third c) .0 .1
+
 cast-words-of : tie.Need-cast-words-of
-cast-words-of c = omega (arith, decimal-rule (bytes "num=") 1 65535 .only (part1 (c .before .before .before .before .before .before .before .before .before .before .before .before .before .before)) _ _ (second (c .before .before .before .before .before .before .before .before)) .0 .1)
+cast-words-of c = omega (arith, num-most (behind-num (c .before .before)))
 
 words-of-requires : tie.Need-words-of-requires
-words-of-requires c κs = decimal-rule (bytes "count=") 0 64 .only (part2 (c .before .before .before .before .before .before .before .before)) _ _ (third (c .before .before)) .0 .1
+words-of-requires c κs = count-most (c .before .before)
 
 -- what is read behind three
 three : (c : tie.After-count)
-    → readingOf (text (c .before .before .before .before .before .before .before .before .before .before .before .before))
-    ≡ wordsAt (c .before .before .before .before .before .before .num .given .0 .0) (c .count .given .0 .0) (take (length (part2 (c .before .before .before .before .before .before)) - n3 c) (drop (n3 c) (part2 (c .before .before .before .before .before .before))))
+    → readingOf (text (behind-a (behind-num c))) ≡ wordsAt (behind-num c .num .given .0 .0) (c .count .given .0 .0) (part3 c)
 unfolding countAt
-three c = two (c .before .before .before .before .before .before) ∙ rw (third c, tail (part2 (c .before .before .before .before .before .before)) (n3 c))
+three c = two (behind-num c) ∙ rw (third c, tail (part2 (behind-num c)) (n3 c))
 
 returns-4 : tie.Need-returns-4
 returns-4 c = c .words-of .ensures ∙ sym (ap parsedOf (three (c .before .before .before)))

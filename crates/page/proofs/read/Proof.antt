@@ -2,8 +2,8 @@
 use borrow.Author.Needs.{needs}
 use borrow.Author.Tests.{lt-ltb}
 use native.Mathlib.Omega.{arith}
-use mathlib.Core.Path.{_≡_, refl, sym, ap, _∙_}
-use Prim.Native.Nat.{ℕ, _*_, _<_, _≤_}
+use mathlib.Core.Path.{refl, _∙_}
+use Prim.Native.Nat.{_*_, _<_}
 use lib.ListN.{length}
 use Rattle.page.specs.Answer.{readOf, cellsOf}
 use Rattle.page.specs.Reader.{readingOf}
@@ -17,7 +17,8 @@ parse-requires c κs = search needs
 returns : tie.Need-returns
 unfolding readOf cellsOf
 returns c =
-    let q = refused-number (readingOf (c .before .before .before .args .text .now)) (c .before .parse .result) (c .before .parse .ensures) (c .if1 .taken) in
+    let p = c .before .parse in
+    let q = refused-number (readingOf (c .before .before .before .args .text .now)) (p .result) (p .ensures) (c .if1 .taken) in
     rw (q .0, q .1) (refl, refl)
 
 -- the text is a page

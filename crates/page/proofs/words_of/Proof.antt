@@ -3,13 +3,14 @@
 use borrow.Author.Needs.{needs}
 use native.Mathlib.Omega.{arith}
 use native.Mathlib.Nat.{sub-zero}
-use mathlib.Core.Path.{_≡_, refl, sym, ap, _∙_}
-use Prim.Native.Nat.{ℕ, _+_, _-_, _<_, _≤_}
+use mathlib.Core.Path.{_≡_, sym, ap, _∙_}
+use mathlib.Core.List.{List}
+use Prim.Native.Nat.{ℕ, _+_, _-_, _≤_}
 use lib.ListN.{length, drop, length-drop}
-use Rattle.page.specs.declared.line.Line.the-variants.{Good, Bad}
+use Rattle.page.specs.declared.line.Line.the-variants.{Good}
 use Rattle.page.specs.Page.{wordLine}
 use Rattle.page.specs.Answer.{parsedOf}
-use Rattle.page.specs.Reader.{wordLineAt, wordsAt}
+use Rattle.page.specs.Reader.{wordLineAt}
 use Rattle.page.specs.ReaderLaws.{word-rule}
 use Rattle.page.proofs.Reading.{tail, line-fits}
 use Rattle.page.proofs.Words.{Kept, kept-bad, kept-long, kept-end, kept-next}
@@ -26,7 +27,14 @@ no-words-requires : tie.Need-no-words-requires Inv-loop μ-loop
 no-words-requires c κs = search needs
 
 loop-holds : tie.Need-loop-holds Inv-loop μ-loop
-loop-holds c = record { few = omega arith; inside = omega arith; size = ap length (c .no-words .ensures); zeros = c .no-words .ensures; same = rw sub-zero }
+loop-holds c =
+    record {
+      few = omega arith;
+      inside = omega arith;
+      size = ap length (c .no-words .ensures);
+      zeros = c .no-words .ensures;
+      same = rw sub-zero;
+    }
 
 sub-word-line : tie.Need-sub-word-line Inv-loop μ-loop
 sub-word-line c = c .before .loop .inv .inside
@@ -49,9 +57,15 @@ enum-told c = search needs
 refused-requires : tie.Need-refused-requires Inv-loop μ-loop
 refused-requires c κs = search needs
 
+-- the text, and what is left of it
+abbrev text : tie.After-word-line Inv-loop μ-loop → List ℕ
+text c = c .before .before .before .before .before .before .args .text .now
+
+abbrev rest : tie.After-word-line Inv-loop μ-loop → List ℕ
+rest c = drop (c .before .before .before .loop .at) (text c)
+
 -- the line at `at`
-answer : (c : tie.After-word-line Inv-loop μ-loop)
-    → c .word-line .result ≡ wordLineAt (drop (c .before .before .before .loop .at) (c .before .before .before .before .before .before .args .text .now))
+answer : (c : tie.After-word-line Inv-loop μ-loop) → c .word-line .result ≡ wordLineAt (rest c)
 answer c =
     c .word-line .ensures
     ∙ ap wordLineAt (tail (c .before .before .before .before .before .before .args .text .now) (c .before .before .before .loop .at))
@@ -73,16 +87,15 @@ array-write-words c = search needs
 
 -- the word and its line's length
 word : (c : tie.After-word Inv-loop μ-loop)
-    → wordLineAt (drop (c .before .before .before .before .before .loop .at) (c .before .before .before .before .before .before .before .before .args .text .now))
-    ≡ Good (c .word .given .0 .0) (c .word .given .0 .1 .0)
+    → wordLineAt (rest (c .before .before)) ≡ Good (c .word .given .0 .0) (c .word .given .0 .1 .0)
 word c = sym (answer (c .before .before)) ∙ c .word .given .1
 
 -- the line stands within the text
 room : (c : tie.After-word Inv-loop μ-loop)
-    → c .before .before .before .before .before .loop .at + c .word .given .0 .1 .0 ≤ length (c .before .before .before .before .before .before .before .before .args .text .now)
+    → c .before .before .before .before .before .loop .at + c .word .given .0 .1 .0 ≤ length (text (c .before .before))
 room c =
     let l = c .before .before .before .before .before .loop in
-    let s = c .before .before .before .before .before .before .before .before .args .text .now in
+    let s = text (c .before .before) in
     omega (arith, l .inv .inside, line-fits wordLineAt _ wordLine word-rule (drop (l .at) s) _ _ (word c), length-drop (l .at) s)
 
 add-at : tie.Need-add-at Inv-loop μ-loop

@@ -1,12 +1,12 @@
 -- `count::magnitude` meets its contract. Assumes nothing.
 use native.Mathlib.Omega.{arith}
-use mathlib.Core.Path.{_≡_, refl, ap, _∙_}
-use mathlib.Core.Bool.{true, false}
-use Prim.Native.Nat.{ℕ, _^_, _<_}
-use lib.IntN.{ℤ, pos, natAbs, _-ℤ_}
+use mathlib.Core.Path.{_≡_, refl, _∙_}
+use mathlib.Core.Bool.{true}
+use Prim.Native.Nat.{_^_, _<_}
+use lib.IntN.{pos, natAbs, _-ℤ_}
 use lib.Signed.{ltZ, natAbs-le}
 use mir.Syntax.{w32, w64}
-use mir.Val.{SFits, toZ, ofZ}
+use mir.Val.{toZ, ofZ}
 use mir.Facts.{toZ-ofZ, sfits-widen}
 use Rattle.page.proofs.Counting.{turned, upright}
 use Rattle.page.proofs.count.magnitude.Statement.{statement}

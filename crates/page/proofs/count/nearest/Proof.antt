@@ -1,5 +1,4 @@
 -- `count::nearest` meets its contract. Assumes nothing.
-use borrow.Author.Needs.{needs}
 use native.Mathlib.Omega.{arith}
 use Rattle.page.proofs.Counting.{product}
 use Rattle.page.proofs.count.nearest.Statement.{statement}

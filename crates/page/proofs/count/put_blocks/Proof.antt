@@ -2,12 +2,10 @@
 -- Assumes nothing.
 use borrow.Author.Needs.{needs}
 use native.Mathlib.Omega.{arith}
-use mathlib.Core.Path.{_≡_, refl, sym, ap, _∙_}
-use mathlib.Core.List.{List}
-use Prim.Native.Nat.{ℕ, _+_, _*_, _-_, _<_, _≤_}
-use lib.IntN.{ℤ}
+use mathlib.Core.Path.{_≡_, refl, sym, _∙_}
+use Prim.Native.Nat.{_*_, _-_, _<_, _≤_}
 use lib.ListN.{length, getD, take, drop}
-use lib.Seq.{sets, length-sets, length-take-le, getD-take}
+use lib.Seq.{sets, length-take-le, getD-take}
 use Rattle.page.specs.Counts.{pageCounts}
 use Rattle.page.proofs.Filling.{blocks-next, blocks-end}
 use Rattle.page.proofs.count.put_blocks.Statement.{statement}

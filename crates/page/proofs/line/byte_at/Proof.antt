@@ -1,6 +1,5 @@
 -- `line::byte_at` meets its contract. Assumes nothing.
 use borrow.Author.Needs.{needs}
-use native.Mathlib.Omega.{arith}
 use mathlib.Core.Path.{sym}
 use lib.ListN.{List·getD-eq-default}
 use Rattle.page.proofs.line.byte_at.Statement.{statement}

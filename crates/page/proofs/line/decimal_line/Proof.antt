@@ -3,11 +3,9 @@ use borrow.Author.Needs.{needs}
 use borrow.Author.Tests.{not-true, not-false, lt-ltb, le-ltb}
 use mathlib.Core.Path.{_≡_, sym, _∙_, ap}
 use mathlib.Core.Bool.{true, false}
-use Prim.Native.Nat.{ℕ, _≤_}
 use native.Mathlib.Omega.{arith}
 use lib.ListN.{length, drop, length-drop}
-use Rattle.page.specs.declared.line.Line.{Line}
-use Rattle.page.specs.declared.line.Line.the-variants.{Good, Bad}
+use Rattle.page.specs.declared.line.Line.the-variants.{Good}
 use Rattle.page.specs.Reader.{begins, decimalAt, decimalLineAt}
 use Rattle.page.proofs.Reading.{key-fits, tail, decimal-room}
 use Rattle.page.proofs.line.decimal_line.Statement.{statement}

@@ -2,10 +2,10 @@
 -- Assumes nothing.
 use borrow.Author.Needs.{needs}
 use mathlib.Core.Path.{_≡_, refl, sym, _∙_, ap}
-use Prim.Native.Nat.{ℕ, _+_, _-_, _<_, _≤_}
+use Prim.Native.Nat.{_-_, _≤_}
 use native.Mathlib.Omega.{arith}
 use lib.ListN.{getD}
-use Rattle.page.specs.declared.line.Digit.the-variants.{Value, Other}
+use Rattle.page.specs.declared.line.Digit.the-variants.{Value}
 use Rattle.page.specs.Reader.{hexAt, digitAt}
 use Rattle.page.specs.ReaderLaws.{digit-only}
 use Rattle.page.proofs.Reading.{hex-step, hex-stop, hex-room}

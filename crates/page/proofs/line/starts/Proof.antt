@@ -1,9 +1,9 @@
--- `line::starts` meets its contract. The invariant: what is left of the text begins with what is left of the key just where the text begins with the key.
--- Assumes nothing.
+-- `line::starts` meets its contract. The invariant: what is left of the text begins with what is left of the key just where
+-- the text begins with the key. Assumes nothing.
 use borrow.Author.Needs.{needs}
 use borrow.Author.Tests.{ne-eqb, eq-eqb}
 use mathlib.Core.Path.{_≡_, refl, sym, _∙_}
-use Prim.Native.Nat.{_+_, _-_, _≤_}
+use Prim.Native.Nat.{_-_, _≤_}
 use native.Mathlib.Omega.{arith}
 use lib.ListN.{length, drop}
 use Rattle.page.specs.Reader.{begins}

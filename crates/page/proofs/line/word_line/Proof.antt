@@ -3,10 +3,7 @@ use borrow.Author.Needs.{needs}
 use borrow.Author.Tests.{not-true, not-false, eq-eqb, ne-eqb}
 use mathlib.Core.Path.{_≡_, sym, _∙_, ap}
 use mathlib.Core.Bool.{true, false}
-use Prim.Native.Nat.{ℕ, _≤_}
-use native.Mathlib.Omega.{arith}
-use lib.ListN.{length, drop}
-use Rattle.page.specs.declared.line.Digit.the-variants.{Value, Other}
+use lib.ListN.{drop}
 use Rattle.page.specs.Text.{bytes}
 use Rattle.page.specs.Reader.{begins, hexAt, wordLineAt}
 use Rattle.page.proofs.Reading.{key-fits, tail}
@@ -22,7 +19,8 @@ starts-requires c κs = search needs
 returns : tie.Need-returns
 unfolding wordLineAt
 returns c =
-    let k : begins (c .before .before .before .before .args .s .now) (bytes "word=") ≡ false = sym (c .before .starts .ensures) ∙ not-true _ (c .if1 .taken) in
+    let s = c .before .before .before .before .args .s .now in
+    let k : begins s (bytes "word=") ≡ false = sym (c .before .starts .ensures) ∙ not-true _ (c .if1 .taken) in
     rw k
 
 -- the key is there

@@ -7,7 +7,7 @@ use lib.IntN.{ℤ, pos}
 use lib.ListN.{length, getD, take, drop, length-set, length-drop}
 use lib.Seq.{ext-getD, getD-take, getD-drop, length-take-le}
 use mir.Syntax.{w32}
-use mir.Val.{SFits, toZ, ofZ}
+use mir.Val.{SFits}
 use mir.Facts.{toZ-ofZ}
 use Rattle.laws.specs.Lists.{filled-more}
 use Rattle.page.proofs.show.counts_at.Statement.{statement}
@@ -62,7 +62,8 @@ returns c =
     let s = a .counts .now in
     let n : length (take 24 (drop (a .at) s)) ≡ 24 = length-take-le 24 (drop (a .at) s) (rw length-drop (omega (arith, c .before .before .pre))) in
     ext-getD (pos 0) (l .block) (take 24 (drop (a .at) s)) (l .inv .1 ∙ sym n)
-    (λ i h. l .inv .2 i (omega (arith, l .inv .1, h)) ∙ sym (getD-take 24 (drop (a .at) s) i (pos 0) (omega (arith, l .inv .1, h)) ∙ getD-drop (a .at) s i (pos 0)))
+    (λ i h. let k : i < 24 = omega (arith, l .inv .1, h) in
+    l .inv .2 i (omega arith) ∙ sym (getD-take 24 (drop (a .at) s) i (pos 0) k ∙ getD-drop (a .at) s i (pos 0)))
 
 pub counts-at-spec : {M : Type 1} → statement M
 counts-at-spec =

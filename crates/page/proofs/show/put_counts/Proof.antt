@@ -3,16 +3,16 @@
 use borrow.Author.Needs.{needs}
 use native.Mathlib.Omega.{arith}
 use mathlib.Core.Path.{_≡_, refl, sym, ap, _∙_}
-use mathlib.Core.List.{List, [], _∷_, _++_}
+use mathlib.Core.List.{[], _∷_}
 use Prim.Native.Nat.{ℕ, _+_, _*_, _-_, _<_, _≤_}
-use lib.IntN.{ℤ, pos}
+use lib.IntN.{pos}
 use lib.ListN.{length, getD, drop, length-append}
 use lib.Seq.{sets}
 use mir.Syntax.{w32}
 use mir.Val.{SFits, toZ, ofZ}
 use mir.Facts.{toZ-ofZ}
 use Rattle.laws.specs.Lists.{sets-append}
-use Rattle.page.specs.Shown.{signed, commas, listed}
+use Rattle.page.specs.Shown.{signed, commas}
 use Rattle.page.proofs.Printing.{row-length, row-next, commas-end, listed-first}
 use Rattle.page.proofs.show.put_counts.Statement.{statement}
 use Rattle.page.proofs.show.put_counts.Tie as tie
@@ -41,7 +41,9 @@ slice-aggregate-put c = search needs
 put-requires : tie.Need-put-requires Inv-loop μ-loop
 put-requires c κs =
     let l = c .before .before .before .loop in
-    omega (arith, l .inv .1, l .inv .2, c .before .before .before .before .before .before .put-signed .kept .0, c .before .before .before .before .before .before .before .before .before .before .pre)
+    let first = c .before .before .before .before .before .before .put-signed in
+    let start = c .before .before .before .before .before .before .before .before .before .before in
+    omega (arith, l .inv .1, l .inv .2, first .kept .0, start .pre)
 
 mul-put-signed : tie.Need-mul-put-signed Inv-loop μ-loop
 mul-put-signed c = search needs
@@ -52,7 +54,10 @@ array-copy-out-put-signed-2 c = search needs
 put-signed-requires-2 : tie.Need-put-signed-requires-2 Inv-loop μ-loop
 put-signed-requires-2 c κs =
     let l = c .before .before .before .before .before .before .before .before .loop in
-    omega (arith, c .before .before .before .before .put .ensures .0, c .before .before .before .before .put .kept .0, l .inv .1, l .inv .2, c .before .before .before .before .before .before .before .before .before .before .before .put-signed .kept .0, c .before .before .before .before .before .before .before .before .before .before .before .before .before .before .before .pre)
+    let comma = c .before .before .before .before .put in
+    let first = c .before .before .before .before .before .before .before .before .before .before .before .put-signed in
+    let start = c .before .before .before .before .before .before .before .before .before .before .before .before .before .before .before in
+    omega (arith, comma .ensures .0, comma .kept .0, l .inv .1, l .inv .2, first .kept .0, start .pre)
 
 add-j : tie.Need-add-j Inv-loop μ-loop
 add-j c = search needs
@@ -63,8 +68,10 @@ loop-less c = search needs
 loop-again : tie.Need-loop-again Inv-loop μ-loop
 loop-again c =
     let l = c .before .before .before .before .before .before .before .before .before .before .before .loop in
-    let zs = c .before .before .before .before .before .before .before .before .before .before .before .before .before .before .before .before .before .before .args .t3 in
-    let p = c .before .before .before .before .before .before .before .put .ensures in
+    let start = c .before .before .before .before .before .before .before .before .before .before .before .before .before .before .before .before .before .before in
+    let zs = start .args .t3 in
+    let comma = c .before .before .before .before .before .before .before .put in
+    let p = comma .ensures in
     let q = c .before .before .put-signed2 .ensures in
     let n : length zs ≡ 24 = search needs in
     let f : SFits w32 (getD zs (l .j) (pos 0)) = search needs in
@@ -74,7 +81,7 @@ loop-again c =
     let v : c .before .before .put-signed2 .last .0 ≡ sets (sets (l .out) (l .next) (44 ∷ [])) (l .next + 1) (signed (getD zs (l .j) (pos 0))) =
     rw (e, p .0, p .1) at (q .2) in (
       omega arith,
-      c .before .before .put-signed2 .kept .0 ∙ c .before .before .before .before .before .before .before .put .kept .0 ∙ l .inv .1,
+      c .before .before .put-signed2 .kept .0 ∙ comma .kept .0 ∙ l .inv .1,
       omega (arith, q .1, p .0, l .inv .2),
       omega (arith, w, l .inv .3, row-length zs (l .j) h),
       rw (v, w) (sym (row-next zs (l .j) h (l .out) (l .next)) ∙ l .inv .4),
@@ -86,20 +93,22 @@ same-length c = c .before .loop .inv .1 ∙ c .before .before .before .before .p
 returns : tie.Need-returns Inv-loop μ-loop
 returns c =
     let l = c .before .loop in
-    let zs = c .before .before .before .before .before .before .before .before .args .t3 in
-    let q = c .before .before .before .before .put-signed .ensures in
+    let a = c .before .before .before .before .before .before .before .before .args in
+    let zs = a .t3 in
+    let first = c .before .before .before .before .put-signed in
+    let q = first .ensures in
     let n : length zs ≡ 24 = search needs in
     let f : SFits w32 (getD zs 0 (pos 0)) = search needs in
     let e : toZ w32 (ofZ w32 (getD zs 0 (pos 0))) ≡ getD zs 0 (pos 0) = toZ-ofZ f in
     let none = commas-end zs (l .j) (omega arith) in
     let all = listed-first zs (omega arith) in
-    let w : c .before .before .before .before .put-signed .result ≡ c .before .before .before .before .before .before .before .before .args .at + length (signed (getD zs 0 (pos 0))) = rw e at (q .0) in
-    let v : c .before .before .before .before .put-signed .last .0 ≡ sets (c .before .before .before .before .before .before .before .before .args .out .now) (c .before .before .before .before .before .before .before .before .args .at) (signed (getD zs 0 (pos 0))) = rw e at (q .2) in
-    let m : l .next + 0 ≡ c .before .before .before .before .put-signed .result + length (commas (drop 1 zs)) = rw none at (l .inv .3) in (
+    let w : first .result ≡ a .at + length (signed (getD zs 0 (pos 0))) = rw e at (q .0) in
+    let v : first .last .0 ≡ sets (a .out .now) (a .at) (signed (getD zs 0 (pos 0))) = rw e at (q .2) in
+    let m : l .next + 0 ≡ first .result + length (commas (drop 1 zs)) = rw none at (l .inv .3) in (
       omega (arith, m, w, ap length all, length-append (signed (getD zs 0 (pos 0))) (commas (drop 1 zs))),
       omega (arith, l .inv .2, l .inv .0),
       (rw none at (l .inv .4))
-          ∙ rw (v, w, all) (sym (sets-append ℕ (signed (getD zs 0 (pos 0))) (commas (drop 1 zs)) (c .before .before .before .before .before .before .before .before .args .out .now) (c .before .before .before .before .before .before .before .before .args .at))),
+          ∙ rw (v, w, all) (sym (sets-append ℕ (signed (getD zs 0 (pos 0))) (commas (drop 1 zs)) (a .out .now) (a .at))),
     )
 
 pub put-counts-spec : {M : Type 1} → statement M

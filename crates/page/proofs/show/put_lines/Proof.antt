@@ -1,11 +1,10 @@
 -- `show::put_lines` meets its contract: five pieces, one behind the other. Assumes nothing.
 use borrow.Author.Needs.{needs}
 use native.Mathlib.Omega.{arith}
-use mathlib.Core.Path.{_≡_, ap, _∙_}
+use mathlib.Core.Path.{_≡_}
 use mathlib.Core.List.{List, _++_, append-assoc}
 use Prim.Native.Nat.{ℕ, _+_, _≤_}
 use lib.ListN.{length}
-use lib.Seq.{sets}
 use Rattle.page.specs.Text.{bytes, decimal}
 use Rattle.page.specs.TextLaws.{decimal-fits}
 use Rattle.page.specs.Shown.{listed, blockText}

@@ -3,13 +3,10 @@ use borrow.Author.Needs.{needs}
 use native.Mathlib.Omega.{arith}
 use native.Mathlib.Numerals.{add-one}
 use mathlib.Core.Path.{_≡_, sym, ap, _∙_}
-use mathlib.Core.Bool.{true, false}
-use mathlib.Core.List.{List, _∷_}
+use mathlib.Core.List.{_∷_}
 use Prim.Native.Nat.{ℕ, _+_, _≤_}
-use lib.IntN.{pos, natAbs}
+use lib.IntN.{natAbs}
 use lib.ListN.{length, length-set}
-use lib.Seq.{sets}
-use lib.Signed.{ltZ}
 use mir.Facts.{toZ-ofZ}
 use Rattle.page.specs.Text.{decimal}
 use Rattle.page.specs.TextLaws.{decimal-fits}
@@ -43,14 +40,17 @@ same-length c = c .before .before .put-decimal .kept .0 ∙ simp length-set
 -- ---- below zero: the sign and the magnitude
 below : (c : tie.Then1) → signed (c .before .before .before .args .z) ≡ 45 ∷ decimal (c .before .magnitude .result)
 below c =
-    signed-below (c .before .before .before .args .z) (rw (toZ-ofZ (c .before .before .before .fits .z)) at (c .if1 .taken)) ∙ ap (λ (n : ℕ). 45 ∷ decimal n) (sym (size (c .before)))
+    signed-below (c .before .before .before .args .z) (rw (toZ-ofZ (c .before .before .before .fits .z)) at (c .if1 .taken))
+    ∙ ap (λ (n : ℕ). 45 ∷ decimal n) (sym (size (c .before)))
 
 returns : tie.Need-returns
 returns c =
     let q = c .before .before .put-decimal .ensures in
     let a = c .before .before .before .before .before .before .before .args in
-    let e : a .at + 1 + length (decimal (c .before .before .before .before .before .magnitude .result)) ≡ a .at + length (45 ∷ decimal (c .before .before .before .before .before .magnitude .result)) = omega arith in
-    rw (below (c .before .before .before .before)) (q .0 ∙ e, omega (arith, q .0, ten (c .before .before .before .before .before)), rw add-one at (q .1))
+    let m = c .before .before .before .before .before .magnitude .result in
+    let e : a .at + 1 + length (decimal m) ≡ a .at + length (45 ∷ decimal m) = omega arith in
+    rw (below (c .before .before .before .before))
+    (q .0 ∙ e, omega (arith, q .0, ten (c .before .before .before .before .before)), rw add-one at (q .1))
 
 -- ---- not below zero: the magnitude alone
 put-decimal-requires-2 : tie.Need-put-decimal-requires-2
@@ -60,7 +60,9 @@ same-length-2 : tie.Need-same-length-2
 same-length-2 c = search needs
 
 above : (c : tie.Else1) → signed (c .before .before .before .args .z) ≡ decimal (c .before .magnitude .result)
-above c = signed-above (c .before .before .before .args .z) (rw (toZ-ofZ (c .before .before .before .fits .z)) at (c .if1 .left)) ∙ ap decimal (sym (size (c .before)))
+above c =
+    signed-above (c .before .before .before .args .z) (rw (toZ-ofZ (c .before .before .before .fits .z)) at (c .if1 .left))
+    ∙ ap decimal (sym (size (c .before)))
 
 returns-2 : tie.Need-returns-2
 returns-2 c =

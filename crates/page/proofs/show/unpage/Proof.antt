@@ -1,8 +1,8 @@
 -- `show::unpage` meets its contract: what it prints follows from what `read` answers and leaves. Assumes nothing.
 use borrow.Author.Needs.{needs}
 use native.Mathlib.Omega.{arith}
-use mathlib.Core.Path.{_≡_, ap, _∙_}
-use Prim.Native.Nat.{ℕ, _≤_}
+use mathlib.Core.Path.{ap, _∙_}
+use Prim.Native.Nat.{_≤_}
 use Rattle.page.specs.Shown.{refusedText, blockTexts, inArray}
 use Rattle.page.proofs.Answering.{prints-refused, Blocks, prints-blocks, in-array}
 use Rattle.page.proofs.show.unpage.Statement.{statement}
@@ -35,7 +35,8 @@ slice-aggregate-put-all-2 : tie.Need-slice-aggregate-put-all-2
 slice-aggregate-put-all-2 c = search needs
 
 -- the page's blocks are in the buffer
-blocks : (c : tie.Else1) → Blocks (c .before .before .before .before .before .args .text .now) (c .before .before .read .result) (c .before .before .read .last .1 .0)
+blocks : (c : tie.Else1)
+    → Blocks (c .before .before .before .before .before .args .text .now) (c .before .before .read .result) (c .before .before .read .last .1 .0)
 blocks c =
     let r = c .before .before .read in
     prints-blocks _ (r .result) _ _ (r .ensures .0) (r .ensures .1) (c .if1 .left)
