@@ -7,3 +7,4 @@ pub mod SampleLaws
 pub mod LargestLaws
 pub mod NormLaws
 pub mod ScaleLaws
+pub mod QuotientLaws

@@ -79,6 +79,13 @@ module _ (m : Float) (p : Plain m) (M : 0 < magUnits m) where
   over-all [] none = none
   over-all (x ∷ xs) (more u e) = more (record { fit = over x u .fit; fin = over x u .fin; le = over-le x u }) (over-all xs e)
 
+  -- so what none of them exceeds is 1 or more
+  pub over-reaches : (g : ℕ) (xs : List Float) → Each (UpTo (magUnits m)) xs → Has (magUnits m) xs → Each (UpTo g) (quotientsOf xs m)
+      → U ≤ g + 2 ^ 1021
+  unfolding quotientsOf
+  over-reaches g (x ∷ xs) (more u e) (here i) (more b d) = le-trans (over-ge x u i) (add-le-add (b .le) (le-refl (2 ^ 1021)))
+  over-reaches g (x ∷ xs) (more u e) (there h) (more b d) = over-reaches g xs e h d
+
 -- ---- squares: of at most 1 and a bit, and of 1 but for a bit
 abbrev Upper : ℕ
 Upper = 2 * U
