@@ -8,3 +8,4 @@ pub mod LargestLaws
 pub mod NormLaws
 pub mod ScaleLaws
 pub mod QuotientLaws
+pub mod Examples

@@ -1,23 +1,19 @@
 -- THE DERIVED SCALES KEEP EACH QUOTIENT BELOW 16. For accepted samples that are not all zero, the choice's samples (as given, or divided by their
 -- largest magnitude) at each of the choice's two scales: the scale is a finite number above 0, each quotient is below 16 in magnitude, and
 -- nothing is refused. So `encode` never gives 3 or 4. Assumes nothing.
-use mathlib.Core.Path.{_≡_, refl, sym, ap, _∙_, subst}
-use mathlib.Core.Bool.{Bool, true, false, cond, _&&_}
+use mathlib.Core.Path.{_≡_, refl, sym, _∙_, subst}
+use mathlib.Core.Bool.{Bool, true, false, cond}
 use mathlib.Core.Logic.{inl, inr}
 use mathlib.Core.List.{List, [], _∷_}
-use Prim.Native.Nat.{ℕ, zero, suc, _+_, _*_, _^_, _≤_, _<_}
+use Prim.Native.Nat.{ℕ, _+_, _*_, _^_, _≤_, _<_}
 use native.Mathlib.Nat.{
-  le-refl,
   le-trans,
   le-of-eq,
   le-of-lt,
   lt-of-lt-of-le,
-  lt-of-le-of-lt,
-  add-le-add,
   mul-comm,
   mul-assoc,
   mul-left-comm,
-  add-mul,
   mul-pos,
   mul-le-mul-left,
   mul-le-mul-right,
@@ -30,7 +26,7 @@ use lib.ListN.{length, getD}
 use lib.Pow.{pow-pos}
 use lib.Ieee.{Float, nan, fin, binary64, fits, unlike, div, lt, le, eq}
 use lib.Ieee.Scale.{finite}
-use Rattle.laws.specs.Tests.{is-false, is-true, true-is, and-in, and-left, and-right}
+use Rattle.laws.specs.Tests.{is-false, true-is, and-in, and-right}
 use Rattle.float.specs.Value.{U, magUnits, isMinus, posUnits, negUnits, zero64}
 use Rattle.float.specs.Calls.{absOf, quotientsOf}
 use Rattle.float.specs.Exact.{zero-fits, zero-mag, parts}
@@ -41,13 +37,12 @@ use Rattle.float.specs.Arithmetic.{div-fraction, fraction-rounded}
 use Rattle.float.specs.Arrays.{quotients-length, quotients-at}
 use Rattle.score.specs.declared.Choice.{Choice}
 use Rattle.score.specs.declared.Choice.the-variants.{Zero, Scale, Divide}
-use Rattle.score.specs.Samples.{limit64, isScale, sampleNumber, scaleNumber}
+use Rattle.score.specs.Samples.{limit64, sampleNumber, scaleNumber}
 use Rattle.score.specs.Scale.{
   leastNormal64,
   largestOf,
   unitNorm,
   scaleWith,
-  scalesAt,
   lowerScale,
   isNormal,
   choiceFrom,
@@ -69,7 +64,7 @@ use Rattle.score.specs.SampleLaws.{
   sample-number-zero,
   scale-number-zero,
 }
-use Rattle.score.specs.LargestLaws.{Has, here, there, Plain, Largest, largest-of, largest-met, largest-le}
+use Rattle.score.specs.LargestLaws.{Has, Plain, Largest, largest-of, largest-met, largest-le}
 use Rattle.score.specs.NormLaws.{over-all, over-reaches, norm-is}
 use Rattle.score.specs.ScaleLaws.{Derived, derived, Kept, kept-first, kept-second}
 

@@ -7,7 +7,6 @@ use native.Mathlib.Nat.{
   le-refl,
   le-trans,
   le-of-eq,
-  le-of-lt,
   lt-of-lt-of-le,
   lt-of-le-of-lt,
   add-le-add,
@@ -22,12 +21,10 @@ use native.Mathlib.Nat.{
   le-of-mul-le-mul-right,
 }
 use native.Mathlib.Omega.{arith}
-use lib.Dec.{T, lit≤}
-use lib.IntN.{negsuc}
+use lib.Dec.{lit≤}
 use lib.Pow.{pow-pos}
-use lib.Ieee.{Float, fin, binary64, fits, mul, div, unlike, ofBits, round, size}
-use lib.Ieee.Scale.{finite}
-use Rattle.float.specs.Value.{U, magUnits, isMinus}
+use lib.Ieee.{Float, fin, binary64, fits, mul, unlike, ofBits, round, size}
+use Rattle.float.specs.Value.{U, magUnits}
 use Rattle.float.specs.Relative.{Close, mul-close, div-close}
 use Rattle.root.specs.Root.{wholeRoot, rootUnits, rootOf, rooted}
 use Rattle.score.specs.Samples.{limit64}
