@@ -87,7 +87,7 @@ sq q u = mul-rounded q q 2 (u .fit) (u .fit) (u .fin) (u .fin) (lit≤ tt) (lt-o
     room : (U + 2 ^ 1021) * (U + 2 ^ 1021) < 2 ^ 1076 * U
     room = lit≤ tt
 
-same-sign : (s : Bool) → unlike s s ≡ false
+pub same-sign : (s : Bool) → unlike s s ≡ false
 same-sign false = refl
 same-sign true = refl
 

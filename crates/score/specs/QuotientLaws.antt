@@ -29,8 +29,8 @@ use lib.Ieee.Scale.{finite}
 use Rattle.laws.specs.Tests.{is-false, true-is, and-in, and-right}
 use Rattle.float.specs.Value.{U, magUnits, isMinus, posUnits, negUnits, zero64}
 use Rattle.float.specs.Calls.{absOf, quotientsOf}
-use Rattle.float.specs.Exact.{zero-fits, zero-mag, parts}
-use Rattle.float.specs.Compare.{is-lt, le-is, eq-zero, zero-eq}
+use Rattle.float.specs.Exact.{parts}
+use Rattle.float.specs.Compare.{le-is, eq-zero, zero-eq}
 use Rattle.float.specs.Error.{Rounded}
 use Rattle.float.specs.Near.{abs-exactly}
 use Rattle.float.specs.Arithmetic.{div-fraction, fraction-rounded}
@@ -64,7 +64,7 @@ use Rattle.score.specs.SampleLaws.{
   sample-number-zero,
   scale-number-zero,
 }
-use Rattle.score.specs.LargestLaws.{Has, Plain, Largest, largest-of, largest-met, largest-le}
+use Rattle.score.specs.LargestLaws.{Has, Plain, above-zero, Largest, largest-of, largest-met, largest-le}
 use Rattle.score.specs.NormLaws.{over-all, over-reaches, norm-is}
 use Rattle.score.specs.ScaleLaws.{Derived, derived, Kept, kept-first, kept-second}
 
@@ -113,14 +113,6 @@ pub record Keeps (xs : List Float) (s : Float) : Type 0 where
   pub above : T (lt zero64 s)
   pub below : (k : ℕ) → k < length xs → magUnits (div binary64 (getD xs k nan) s) < 16 * U
   pub accepted : scaleNumber xs s ≡ 0
-
-above-zero : (s : Float) → Plain s → 0 < magUnits s → T (lt zero64 s)
-above-zero s p h =
-    let w = parts s false (p .sign) in
-    is-lt zero64 s zero-fits (p .fit) tt (p .fin) (go (posUnits s) (negUnits s) (magUnits s) (magUnits zero64) (w .0) (w .1) zero-mag h)
-  where
-    go : (a b m z : ℕ) → a ≡ m → b ≡ 0 → z ≡ 0 → 0 < m → z + b < a + 0
-    go a b m z i j k h = omega arith
 
 keeps : (g : ℕ) (xs : List Float) (s : Float) → Each Sample xs → Each (UpTo g) xs → Kept g s → Keeps xs s
 keeps g xs s e u k =

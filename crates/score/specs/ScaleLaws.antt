@@ -63,13 +63,13 @@ unfolding magUnits
 limit-le = lit≤ tt
 
 -- ---- a fraction a, and what it is rounded to, c, in units of u
-at-least : (a c u : ℕ) → a * 2 ^ 53 ≤ c * 2 ^ 53 + a + 2 ^ 52 * u → 999 * a ≤ 1000 * c + 500 * u
+pub at-least : (a c u : ℕ) → a * 2 ^ 53 ≤ c * 2 ^ 53 + a + 2 ^ 52 * u → 999 * a ≤ 1000 * c + 500 * u
 at-least a c u h = omega arith
 
 at-most : (a c u : ℕ) → c * 2 ^ 53 ≤ a * 2 ^ 53 + a + 2 ^ 52 * u → c ≤ 2 * a + u
 at-most a c u h = omega arith
 
-cancel : (i j k x y u : ℕ) → 0 < u → i * (x * u) ≤ j * (y * u) + k * u → i * x ≤ j * y + k
+pub cancel : (i j k x y u : ℕ) → 0 < u → i * (x * u) ≤ j * (y * u) + k * u → i * x ≤ j * y + k
 cancel i j k x y u P h =
     le-of-mul-le-mul-right
     (le-trans (le-of-eq (mul-assoc i x u))
