@@ -348,19 +348,24 @@ near-quarter {x} {p} {n} {e} b u B h =
 
 -- ---- x + y of two that are not negative is not negative, and no smaller than either
 -- a fraction that is no smaller than a double x is rounded to one that is no smaller
-round-grows : (x : Float) (low num den : ℕ) → T (fits binary64 x) → T (finite x) → isMinus x ≡ false → 0 < den → low * U ≡ magUnits x * den → low ≤ num
-    → T (finite (round binary64 false num den)) → (isMinus (round binary64 false num den) ≡ false) × (magUnits x ≤ magUnits (round binary64 false num den))
+round-grows : (x : Float) (low num den : ℕ) → T (fits binary64 x) → T (finite x) → isMinus x ≡ false → 0 < den
+    → low * U ≡ magUnits x * den → low ≤ num → T (finite (round binary64 false num den))
+    → (isMinus (round binary64 false num den) ≡ false) × (magUnits x ≤ magUnits (round binary64 false num den))
 round-grows x low num den f i s D e h j =
     let r = round binary64 false num den in
     let q = round binary64 false low den in
     let d = digits x f i in
     let is : magUnits x ≡ d .m * 2 ^ d .j = d .mag in
-    let a = round-exactly false low den (d .m) (d .j) D (d .small) (subst (λ (g : ℕ). g < 2 ^ 2098) is (mag-lt x f i)) (e ∙ ap (λ (g : ℕ). g * den) is) in
+    let a =
+    round-exactly false low den (d .m) (d .j) D (d .small) (subst (λ (g : ℕ). g < 2 ^ 2098) is (mag-lt x f i)) (e ∙ ap (λ (g : ℕ). g * den) is) in
     let b = round-grid false num den (round-under binary64 num den j) in
     let l = le-is q r (a .fit) (b .fit) (a .fin) j (round-mono binary64 low den num den D D (mul-le-mul-right den h)) in
     let u = parts q false (a .sign) in
     let w = parts r false (b .sign) in
-    (b .sign, go (posUnits q) (negUnits q) (posUnits r) (negUnits r) (magUnits q) (magUnits r) (magUnits x) (u .0) (u .1) (w .0) (w .1) (a .mag ∙ sym is) l)
+    (
+      b .sign,
+      go (posUnits q) (negUnits q) (posUnits r) (negUnits r) (magUnits q) (magUnits r) (magUnits x) (u .0) (u .1) (w .0) (w .1) (a .mag ∙ sym is) l,
+    )
   where
     go : (pq nq pr nr mq mr m : ℕ) → pq ≡ mq → nq ≡ 0 → pr ≡ mr → nr ≡ 0 → mq ≡ m → pq + nr ≤ pr + nq → m ≤ mr
     go pq nq pr nr mq mr m a b c d e h = omega arith

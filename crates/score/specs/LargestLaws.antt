@@ -45,7 +45,8 @@ record Larger (a b r : Float) : Type 0 where
   one : (magUnits r ≡ magUnits a) ⊎ (magUnits r ≡ magUnits b)
 
 larger-is : (a b : Float) → Plain a → Plain b → Larger a b (larger a b)
-larger-is a b p q = go (lt a b) (λ e. lt-is a b (p .fit) (q .fit) (p .fin) (q .fin) (true-is (lt a b) e)) (not-lt-is a b (p .fit) (q .fit) (p .fin) (q .fin))
+larger-is a b p q =
+    go (lt a b) (λ e. lt-is a b (p .fit) (q .fit) (p .fin) (q .fin) (true-is (lt a b) e)) (not-lt-is a b (p .fit) (q .fit) (p .fin) (q .fin))
   where
     u : Parts false a
     u = parts a false (p .sign)

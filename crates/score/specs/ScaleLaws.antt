@@ -128,7 +128,8 @@ module _ (m n : Float) (p : Plain m) (L : magUnits m ≤ magUnits limit64) (q : 
   first-low =
       cancel 321 1000 500 (magUnits m) (magUnits first) U (pow-pos 1074)
       (go (magUnits m * U) (magUnits alpha64 * magUnits m) (magUnits first * U) U
-      (le-trans (times-low 3217 10000 (magUnits m) (magUnits alpha64) U (alpha-is .lo)) (le-of-eq (ap (λ (z : ℕ). 10000 * z) (mul-comm (magUnits m) (magUnits alpha64)))))
+      (le-trans (times-low 3217 10000 (magUnits m) (magUnits alpha64) U (alpha-is .lo))
+      (le-of-eq (ap (λ (z : ℕ). 10000 * z) (mul-comm (magUnits m) (magUnits alpha64)))))
       (at-least (magUnits alpha64 * magUnits m) (magUnits first * U) U (first-is .lo)))
     where
       go : (mu am c u : ℕ) → 3217 * mu ≤ 10000 * am → 999 * am ≤ 1000 * c + 500 * u → 321 * mu ≤ 1000 * c + 500 * u
@@ -140,7 +141,8 @@ module _ (m n : Float) (p : Plain m) (L : magUnits m ≤ magUnits limit64) (q : 
       le-trans
       (cancel1 2 1 (magUnits first) (magUnits m) U (pow-pos 1074)
       (le-trans (at-most (magUnits alpha64 * magUnits m) (magUnits first * U) U (first-is .hi))
-      (add-le-add (mul-le-mul-left 2 (le-trans (mul-le-mul-right (magUnits m) alpha-le) (le-of-eq (mul-comm U (magUnits m))))) (le-of-eq (sym (one-mul U))))))
+      (add-le-add (mul-le-mul-left 2 (le-trans (mul-le-mul-right (magUnits m) alpha-le) (le-of-eq (mul-comm U (magUnits m)))))
+      (le-of-eq (sym (one-mul U))))))
       (le-trans (add-le-add (mul-le-mul-left 2 m-le) (le-refl 1)) room)
 
   second-is : Close second false (magUnits first * magUnits n) U

@@ -53,7 +53,10 @@ use Rattle.score.specs.ScaleLaws.{at-least, cancel}
 mag-whole : (y : ℤ) → natAbs y ≤ 2 ^ 31 → magUnits (ofInt binary64 y) ≡ natAbs y * U
 mag-whole y h =
     let w = ofInt-whole y (lt-of-le-of-lt h (lit≤ tt)) in
-    mag-parts (ofInt binary64 y) ∙ ap₂ (λ (a b : ℕ). a + b) (w .pos-is) (w .neg-is) ∙ sym (add-mul (posPart y) (negPart y) U) ∙ ap (λ (z : ℕ). z * U) (size-is y)
+    mag-parts (ofInt binary64 y)
+    ∙ ap₂ (λ (a b : ℕ). a + b) (w .pos-is) (w .neg-is)
+    ∙ sym (add-mul (posPart y) (negPart y) U)
+    ∙ ap (λ (z : ℕ). z * U) (size-is y)
   where
     size-is : (y : ℤ) → posPart y + negPart y ≡ natAbs y
     size-is (pos n) = omega arith
@@ -86,7 +89,8 @@ module _ (t b : ℕ) (B : b ≤ 1023) (H : halfUlp b ≤ t) where
         fit = n .fit;
         fin = n .fin;
         le = le-trans (near-mag-plain n)
-            (go (posUnits acc) (negUnits acc) (posUnits x) (negUnits x) (magUnits acc) (magUnits x) (halfUlp b) (mag-parts acc) (mag-parts x) (u .le) (w .le) H);
+            (go (posUnits acc) (negUnits acc) (posUnits x) (negUnits x) (magUnits acc) (magUnits x) (halfUlp b) (mag-parts acc) (mag-parts x)
+            (u .le) (w .le) H);
       }
     where
       go : (pa na px nx ma mx e : ℕ) → ma ≡ pa + na → mx ≡ px + nx → ma ≤ c → mx ≤ t → e ≤ t → gap (pa + px) (na + nx) + (0 + 0 + e * 1) ≤ c + 2 * t
@@ -142,7 +146,11 @@ zero-upto = record { fit = zero-fits; fin = tt; le = le-of-eq zero-mag }
 product-is : (x y : Float) → Sample x → UpTo (2 ^ 31 * U) y → UpTo (2 ^ 2070) (mul binary64 x y)
 product-is x y u w =
     let r = mul-rounded x y 996 (u .fit) (w .fit) (u .fin) (w .fin) (lit≤ tt) (lt-of-le-of-lt (mul-le-mul (u .le) (w .le)) room) in
-    record { fit = r .fit; fin = r .fin; le = le-of-mul-le-mul-right (le-trans (r .hi) (le-trans (add-le-add (mul-le-mul (u .le) (w .le)) (le-refl (2 ^ 2016 * U))) top)) (pow-pos 1074) }
+    record {
+      fit = r .fit;
+      fin = r .fin;
+      le = le-of-mul-le-mul-right (le-trans (r .hi) (le-trans (add-le-add (mul-le-mul (u .le) (w .le)) (le-refl (2 ^ 2016 * U))) top)) (pow-pos 1074);
+    }
   where
     room : magUnits limit64 * (2 ^ 31 * U) < 2 ^ 2070 * U
     room = unfold magUnits in lit≤ tt
@@ -177,7 +185,11 @@ square-is y u =
     let room : 2 ^ 31 * U * (2 ^ 31 * U) < 2 ^ 1137 * U = lit≤ tt in
     let top : 2 ^ 31 * U * (2 ^ 31 * U) + 2 ^ 1083 * U ≤ 2 ^ 1137 * U = lit≤ tt in
     let r = mul-rounded y y 63 (u .fit) (u .fit) (u .fin) (u .fin) (lit≤ tt) (lt-of-le-of-lt (mul-le-mul (u .le) (u .le)) room) in (
-      record { fit = r .fit; fin = r .fin; le = le-of-mul-le-mul-right (le-trans (r .hi) (le-trans (add-le-add (mul-le-mul (u .le) (u .le)) (le-refl (2 ^ 1083 * U))) top)) (pow-pos 1074) },
+      record {
+        fit = r .fit;
+        fin = r .fin;
+        le = le-of-mul-le-mul-right (le-trans (r .hi) (le-trans (add-le-add (mul-le-mul (u .le) (u .le)) (le-refl (2 ^ 1083 * U))) top)) (pow-pos 1074);
+      },
       record { fit = r .fit; fin = r .fin; sign = r .sign ∙ same-sign (isMinus y) },
     )
 
@@ -252,7 +264,8 @@ module _ (d n : Float) (u : UpTo (2 ^ 2076) d) (p : Plain n) (h : U ≤ 2 * magU
   over-root-finite =
       let r = rooted-nearest n (p .fit) (p .fin) (p .sign) n-pos in
       let room : 2 ^ 2076 * U < 2 ^ 2078 * 2 ^ 1073 = lit≤ tt in
-      let q = fraction-rounded 1004 (div-fraction d (rooted n .root) (u .fit) (r .fit) (u .fin) (r .fin) (lt-of-lt-of-le (pow-pos 1073) root-ge)) (lit≤ tt)
+      let q =
+      fraction-rounded 1004 (div-fraction d (rooted n .root) (u .fit) (r .fit) (u .fin) (r .fin) (lt-of-lt-of-le (pow-pos 1073) root-ge)) (lit≤ tt)
       (lt-of-le-of-lt (mul-le-mul-right U (u .le)) (lt-of-lt-of-le room (mul-le-mul-left (2 ^ 2078) root-ge))) in
       rw (is-true (lt zero64 n) (above-zero n p n-pos)) (q .fin)
 
