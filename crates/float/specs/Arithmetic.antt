@@ -361,8 +361,7 @@ round-grows x low num den f i s D e h j =
     let b = round-grid false num den (round-under binary64 num den j) in
     let l = le-is q r (a .fit) (b .fit) (a .fin) j (round-mono binary64 low den num den D D (mul-le-mul-right den h)) in
     let u = parts q false (a .sign) in
-    let w = parts r false (b .sign) in
-    (
+    let w = parts r false (b .sign) in (
       b .sign,
       go (posUnits q) (negUnits q) (posUnits r) (negUnits r) (magUnits q) (magUnits r) (magUnits x) (u .0) (u .1) (w .0) (w .1) (a .mag ∙ sym is) l,
     )
