@@ -1,10 +1,10 @@
 -- The largest magnitude: no sample is larger, and one has it, where not all are zero. Assumes nothing.
-use mathlib.Core.Path.{_≡_, refl, sym, ap, _∙_, subst}
+use mathlib.Core.Path.{_≡_, refl, sym, _∙_}
 use mathlib.Core.Bool.{Bool, true, false, cond}
 use mathlib.Core.Logic.{_⊎_, inl, inr}
 use mathlib.Core.List.{List, [], _∷_}
 use Prim.Native.Nat.{ℕ, _+_, _≤_, _<_}
-use native.Mathlib.Nat.{le-trans, le-of-eq, le-of-lt, le-refl}
+use native.Mathlib.Nat.{le-trans, le-of-eq, le-refl}
 use native.Mathlib.Omega.{arith}
 use lib.Dec.{T}
 use lib.Ieee.{Float, binary64, fits, lt}
@@ -12,11 +12,11 @@ use lib.Ieee.Scale.{finite}
 use Rattle.laws.specs.Tests.{true-is}
 use Rattle.float.specs.Value.{magUnits, isMinus, posUnits, negUnits, zero64}
 use Rattle.float.specs.Calls.{absOf}
-use Rattle.float.specs.Exact.{Exactly, Parts, parts, zero-fits, zero-mag}
+use Rattle.float.specs.Exact.{Parts, parts, zero-fits, zero-mag}
 use Rattle.float.specs.Compare.{lt-is, not-lt-is}
 use Rattle.float.specs.Near.{abs-exactly}
 use Rattle.score.specs.Scale.{larger, largestFrom, largestOf}
-use Rattle.score.specs.SampleLaws.{UpTo, Each, none, more, each-map}
+use Rattle.score.specs.SampleLaws.{UpTo, Each, none, more}
 
 -- ---- one of them has g units
 pub data Has (g : ℕ) : List Float → Type 0 where

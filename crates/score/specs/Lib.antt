@@ -7,3 +7,5 @@ pub mod SampleLaws
 pub mod LargestLaws
 pub mod NormLaws
 pub mod ScaleLaws
+pub mod QuotientLaws
+pub mod Examples

@@ -7,18 +7,12 @@ use native.Mathlib.Nat.{
   le-refl,
   le-trans,
   le-of-eq,
-  le-of-lt,
-  lt-of-lt-of-le,
   lt-of-le-of-lt,
   zero-add,
   add-le-add,
-  mul-one,
   mul-comm,
-  mul-assoc,
   add-mul,
   suc-mul,
-  zero-mul,
-  mul-pos,
   mul-le-mul,
   mul-le-mul-left,
   mul-le-mul-right,
@@ -33,8 +27,8 @@ use lib.Pow.{pow-pos}
 use lib.Ieee.{Float, fin, binary64, fits, mul, div, unlike}
 use lib.Ieee.Scale.{finite}
 use Rattle.laws.specs.Whole.{gap}
-use Rattle.float.specs.Value.{U, magUnits, isMinus, posUnits, negUnits, zero64}
-use Rattle.float.specs.Calls.{sumOf, quotientsOf}
+use Rattle.float.specs.Value.{U, magUnits, isMinus, posUnits, zero64}
+use Rattle.float.specs.Calls.{quotientsOf}
 use Rattle.float.specs.Exact.{parts}
 use Rattle.float.specs.Error.{halfUlp, Rounded}
 use Rattle.float.specs.Near.{Near, near-self, near-zero, near-more, near-parts, near-mag-plain, mag-near-plain}
@@ -79,10 +73,14 @@ module _ (m : Float) (p : Plain m) (M : 0 < magUnits m) where
   over-all [] none = none
   over-all (x ∷ xs) (more u e) = more (record { fit = over x u .fit; fin = over x u .fin; le = over-le x u }) (over-all xs e)
 
--- ---- squares: of at most 1 and a bit, and of 1 but for a bit
-abbrev Upper : ℕ
-Upper = 2 * U
+  -- so what none of them exceeds is 1 or more
+  pub over-reaches : (g : ℕ) (xs : List Float) → Each (UpTo (magUnits m)) xs → Has (magUnits m) xs → Each (UpTo g) (quotientsOf xs m)
+      → U ≤ g + 2 ^ 1021
+  unfolding quotientsOf
+  over-reaches g (x ∷ xs) (more u e) (here i) (more b d) = le-trans (over-ge x u i) (add-le-add (b .le) (le-refl (2 ^ 1021)))
+  over-reaches g (x ∷ xs) (more u e) (there h) (more b d) = over-reaches g xs e h d
 
+-- ---- squares: of at most 1 and a bit, and of 1 but for a bit
 sq : (q : Float) → UpTo (U + 2 ^ 1021) q → Rounded (mul binary64 q q) (unlike (isMinus q) (isMinus q)) (magUnits q * magUnits q) U 2
 sq q u = mul-rounded q q 2 (u .fit) (u .fit) (u .fin) (u .fin) (lit≤ tt) (lt-of-le-of-lt (mul-le-mul (u .le) (u .le)) room)
   where

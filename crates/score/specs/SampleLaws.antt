@@ -1,21 +1,21 @@
 -- What the refusals say of the numbers: which magnitudes pass the tests. Assumes nothing.
-use mathlib.Core.Path.{_≡_, refl, sym, ap, _∙_, subst}
+use mathlib.Core.Path.{_≡_, refl, sym, ap, _∙_}
 use mathlib.Core.Bool.{Bool, true, false, cond, not, _||_, true≢false}
 use mathlib.Core.List.{List, [], _∷_}
 use Prim.Native.Nat.{ℕ, zero, suc, _+_, _*_, _≤_, _<_}
-use native.Mathlib.Nat.{le-trans, le-of-eq, le-of-lt, lt-of-lt-of-le, lt-of-le-of-lt, not-suc-le-zero, le-of-suc-le-suc, not-le-of-lt}
+use native.Mathlib.Nat.{le-trans, le-of-eq, not-suc-le-zero, le-of-suc-le-suc}
 use native.Mathlib.Omega.{arith}
-use lib.Dec.{T, eqb, lit≤}
+use lib.Dec.{T, eqb}
 use lib.ListN.{length, getD}
 use lib.Ieee.{Float, nan, binary64, fits, lt}
 use lib.Ieee.Scale.{finite}
-use Rattle.laws.specs.Tests.{is-false, is-true, and-in}
-use Rattle.float.specs.Value.{U, magUnits, isMinus, posUnits, negUnits, zero64}
+use Rattle.laws.specs.Tests.{is-false, is-true}
+use Rattle.float.specs.Value.{U, magUnits, isMinus, posUnits, negUnits}
 use Rattle.float.specs.Calls.{absOf, million64, quotientsOf}
-use Rattle.float.specs.Exact.{zero-fits, parts}
+use Rattle.float.specs.Exact.{parts}
 use Rattle.float.specs.Compare.{lt-is, not-lt-is}
 use Rattle.float.specs.Near.{abs-exactly}
-use Rattle.score.specs.Samples.{limit64, unbounded, exceeds, some, sampleNumber, isScale, quotientNumber, scaleNumber}
+use Rattle.score.specs.Samples.{limit64, unbounded, exceeds, some, sampleNumber, isScale, scaleNumber}
 
 -- ---- doubles as an array holds them
 abbrev pub AllFit : List Float → Type 0

@@ -1,13 +1,12 @@
 -- How large the scale is that comes of a largest magnitude and a norm: one 15.9th of the largest magnitude at least, once it is 32 units or more.
 -- Assumes nothing.
-use mathlib.Core.Path.{_≡_, refl, sym, ap, _∙_, subst}
+use mathlib.Core.Path.{_≡_, refl, sym, ap, ap₂, _∙_, subst}
 use mathlib.Core.Bool.{Bool, false}
 use Prim.Native.Nat.{ℕ, _+_, _*_, _^_, _≤_, _<_}
 use native.Mathlib.Nat.{
   le-refl,
   le-trans,
   le-of-eq,
-  le-of-lt,
   lt-of-lt-of-le,
   lt-of-le-of-lt,
   add-le-add,
@@ -22,12 +21,10 @@ use native.Mathlib.Nat.{
   le-of-mul-le-mul-right,
 }
 use native.Mathlib.Omega.{arith}
-use lib.Dec.{T, lit≤}
-use lib.IntN.{negsuc}
+use lib.Dec.{lit≤}
 use lib.Pow.{pow-pos}
-use lib.Ieee.{Float, fin, binary64, fits, mul, div, unlike, ofBits, round, size}
-use lib.Ieee.Scale.{finite}
-use Rattle.float.specs.Value.{U, magUnits, isMinus}
+use lib.Ieee.{Float, fin, binary64, fits, mul, unlike, ofBits, round, size}
+use Rattle.float.specs.Value.{U, magUnits}
 use Rattle.float.specs.Relative.{Close, mul-close, div-close}
 use Rattle.root.specs.Root.{wholeRoot, rootUnits, rootOf, rooted}
 use Rattle.score.specs.Samples.{limit64}
@@ -61,9 +58,9 @@ root-of-24 = record { plain = record { fit = tt; fin = tt; sign = refl }; lo = l
 root24-const : Constant root24 48 49 10
 root24-const = subst (λ (x : Float). Constant x 48 49 10) (sym root24-is) root-of-24
 
-limit-lt : magUnits limit64 ≤ 2 ^ 2040
+limit-le : magUnits limit64 ≤ 2 ^ 2040
 unfolding magUnits
-limit-lt = lit≤ tt
+limit-le = lit≤ tt
 
 -- ---- a fraction a, and what it is rounded to, c, in units of u
 at-least : (a c u : ℕ) → a * 2 ^ 53 ≤ c * 2 ^ 53 + a + 2 ^ 52 * u → 999 * a ≤ 1000 * c + 500 * u
@@ -90,3 +87,170 @@ times-low i j x y u h =
 times-high : (i j x y u : ℕ) → j * y ≤ i * u → j * (x * y) ≤ i * (x * u)
 times-high i j x y u h =
     le-trans (le-of-eq (mul-left-comm j x y)) (le-trans (mul-le-mul-left x h) (le-of-eq (mul-left-comm x i u)))
+
+-- ---- a scale derived from a largest magnitude of g units
+pub record Derived (g : ℕ) (s : Float) : Type 0 where
+  pub plain : Plain s
+  pub top : magUnits s ≤ 2 ^ 2060
+  pub keeps : 32 ≤ magUnits s → 10 * g ≤ 159 * magUnits s
+  pub large : 2 ^ 20 ≤ g → 32 ≤ magUnits s
+
+-- ALPHA * m, then times n, then over the root of 24
+module _ (m n : Float) (p : Plain m) (L : magUnits m ≤ magUnits limit64) (q : Norm n) where
+  abbrev first : Float
+  first = mul binary64 alpha64 m
+
+  abbrev second : Float
+  second = mul binary64 first n
+
+  alpha-le : magUnits alpha64 ≤ U
+  alpha-le = go (magUnits alpha64) U (alpha-is .hi)
+    where
+      go : (a u : ℕ) → 10000 * a ≤ 3219 * u → a ≤ u
+      go a u h = omega arith
+
+  root-ge : U ≤ magUnits root24
+  root-ge = go (magUnits root24) U (root24-const .lo)
+    where
+      go : (a u : ℕ) → 48 * u ≤ 10 * a → u ≤ a
+      go a u h = omega arith
+
+  m-le : magUnits m ≤ 2 ^ 2040
+  m-le = le-trans L limit-le
+
+  first-is : Close first false (magUnits alpha64 * magUnits m) U
+  first-is =
+      let room : U * 2 ^ 2040 < 2 ^ 2097 * U = lit≤ tt in
+      subst (λ (s : Bool). Close first s (magUnits alpha64 * magUnits m) U) (ap (unlike false) (p .sign))
+      (mul-close alpha64 m (alpha-is .plain .fit) (p .fit) tt (p .fin) (lt-of-le-of-lt (mul-le-mul alpha-le m-le) room))
+
+  first-low : 321 * magUnits m ≤ 1000 * magUnits first + 500
+  first-low =
+      cancel 321 1000 500 (magUnits m) (magUnits first) U (pow-pos 1074)
+      (go (magUnits m * U) (magUnits alpha64 * magUnits m) (magUnits first * U) U
+      (le-trans (times-low 3217 10000 (magUnits m) (magUnits alpha64) U (alpha-is .lo)) (le-of-eq (ap (λ (z : ℕ). 10000 * z) (mul-comm (magUnits m) (magUnits alpha64)))))
+      (at-least (magUnits alpha64 * magUnits m) (magUnits first * U) U (first-is .lo)))
+    where
+      go : (mu am c u : ℕ) → 3217 * mu ≤ 10000 * am → 999 * am ≤ 1000 * c + 500 * u → 321 * mu ≤ 1000 * c + 500 * u
+      go mu am c u h k = omega arith
+
+  first-high : magUnits first ≤ 2 ^ 2042
+  first-high =
+      let room : 2 * 2 ^ 2040 + 1 ≤ 2 ^ 2042 = lit≤ tt in
+      le-trans
+      (cancel1 2 1 (magUnits first) (magUnits m) U (pow-pos 1074)
+      (le-trans (at-most (magUnits alpha64 * magUnits m) (magUnits first * U) U (first-is .hi))
+      (add-le-add (mul-le-mul-left 2 (le-trans (mul-le-mul-right (magUnits m) alpha-le) (le-of-eq (mul-comm U (magUnits m))))) (le-of-eq (sym (one-mul U))))))
+      (le-trans (add-le-add (mul-le-mul-left 2 m-le) (le-refl 1)) room)
+
+  second-is : Close second false (magUnits first * magUnits n) U
+  second-is =
+      let room : 2 ^ 2042 * (16 * U) < 2 ^ 2097 * U = lit≤ tt in
+      subst (λ (s : Bool). Close second s (magUnits first * magUnits n) U) (ap₂ unlike (first-is .sign) (q .plain .sign))
+      (mul-close first n (first-is .fit) (q .plain .fit) (first-is .fin) (q .plain .fin) (lt-of-le-of-lt (mul-le-mul first-high (q .high)) room))
+
+  second-low : 998 * magUnits first ≤ 1000 * magUnits second + 500
+  second-low =
+      cancel 998 1000 500 (magUnits first) (magUnits second) U (pow-pos 1074)
+      (go (magUnits first * U) (magUnits first * magUnits n) (magUnits second * U) U
+      (times-low 999 1000 (magUnits first) (magUnits n) U (q .low))
+      (at-least (magUnits first * magUnits n) (magUnits second * U) U (second-is .lo)))
+    where
+      go : (mu am c u : ℕ) → 999 * mu ≤ 1000 * am → 999 * am ≤ 1000 * c + 500 * u → 998 * mu ≤ 1000 * c + 500 * u
+      go mu am c u h k = omega arith
+
+  second-high : magUnits second ≤ 2 ^ 2048
+  second-high =
+      let room : 32 * 2 ^ 2042 + 1 ≤ 2 ^ 2048 = lit≤ tt in
+      le-trans
+      (cancel1 32 1 (magUnits second) (magUnits first) U (pow-pos 1074)
+      (le-trans (at-most (magUnits first * magUnits n) (magUnits second * U) U (second-is .hi))
+      (go (magUnits first * magUnits n) (magUnits first * U) U
+      (le-trans (mul-le-mul-left (magUnits first) (q .high)) (le-of-eq (mul-left-comm (magUnits first) 16 U))))))
+      (le-trans (add-le-add (mul-le-mul-left 32 first-high) (le-refl 1)) room)
+    where
+      go : (a b u : ℕ) → a ≤ 16 * b → 2 * a + u ≤ 32 * b + 1 * u
+      go a b u h = omega arith
+
+  abbrev scale : Float
+  scale = scaleWith m n
+
+  scale-is : Close scale false (magUnits second * U) (magUnits root24)
+  scale-is =
+      let room : 2 ^ 2048 * U < 2 ^ 2097 * U = lit≤ tt in
+      subst (λ (s : Bool). Close scale s (magUnits second * U) (magUnits root24)) (ap₂ unlike (second-is .sign) (root24-const .plain .sign))
+      (div-close second root24 (second-is .fit) (root24-const .plain .fit) (second-is .fin) (root24-const .plain .fin)
+      (lt-of-lt-of-le (pow-pos 1074) root-ge)
+      (lt-of-le-of-lt (mul-le-mul-right U second-high) (lt-of-lt-of-le room (mul-le-mul-left (2 ^ 2097) root-ge))))
+
+  scale-low : 999 * magUnits second ≤ 4900 * magUnits scale + 2450
+  scale-low =
+      cancel 999 4900 2450 (magUnits second) (magUnits scale) U (pow-pos 1074)
+      (go (magUnits second * U) (magUnits scale * magUnits root24) (magUnits scale * U) (magUnits root24) U
+      (times-high 49 10 (magUnits scale) (magUnits root24) U (root24-const .hi)) (root24-const .hi)
+      (at-least (magUnits second * U) (magUnits scale * magUnits root24) (magUnits root24) (scale-is .lo)))
+    where
+      go : (a sr su r u : ℕ) → 10 * sr ≤ 49 * su → 10 * r ≤ 49 * u → 999 * a ≤ 1000 * sr + 500 * r → 999 * a ≤ 4900 * su + 2450 * u
+      go a sr su r u h k l = omega arith
+
+  scale-high : magUnits scale ≤ 2 ^ 2050
+  scale-high =
+      let room : 2 * 2 ^ 2048 + 1 ≤ 2 ^ 2050 = lit≤ tt in
+      le-trans
+      (cancel1 2 1 (magUnits scale) (magUnits second) (magUnits root24) (lt-of-lt-of-le (pow-pos 1074) root-ge)
+      (le-trans (at-most (magUnits second * U) (magUnits scale * magUnits root24) (magUnits root24) (scale-is .hi))
+      (add-le-add (mul-le-mul-left 2 (mul-le-mul-left (magUnits second) root-ge)) (le-of-eq (sym (one-mul (magUnits root24)))))))
+      (le-trans (add-le-add (mul-le-mul-left 2 second-high) (le-refl 1)) room)
+
+  pub derived : Derived (magUnits m) (scaleWith m n)
+  derived =
+      let room : 2 ^ 2050 ≤ 2 ^ 2060 = lit≤ tt in
+      record {
+        plain = record { fit = scale-is .fit; fin = scale-is .fin; sign = scale-is .sign };
+        top = le-trans scale-high room;
+        keeps = keeps (magUnits m) (magUnits first) (magUnits second) (magUnits scale) first-low second-low scale-low;
+        large = large (magUnits m) (magUnits first) (magUnits second) (magUnits scale) first-low second-low scale-low;
+      }
+    where
+      keeps : (m a b s : ℕ) → 321 * m ≤ 1000 * a + 500 → 998 * a ≤ 1000 * b + 500 → 999 * b ≤ 4900 * s + 2450 → 32 ≤ s → 10 * m ≤ 159 * s
+      keeps m a b s x y z h = omega arith
+
+      large : (m a b s : ℕ) → 321 * m ≤ 1000 * a + 500 → 998 * a ≤ 1000 * b + 500 → 999 * b ≤ 4900 * s + 2450 → 2 ^ 20 ≤ m → 32 ≤ s
+      large m a b s x y z h = omega arith
+
+-- ---- the second scale is no smaller
+pub record Kept (g : ℕ) (s : Float) : Type 0 where
+  pub plain : Plain s
+  pub some : 32 ≤ magUnits s
+  pub keeps : 10 * g ≤ 159 * magUnits s
+
+pub kept-first : {g : ℕ} {s : Float} → Derived g s → 32 ≤ magUnits s → Kept g s
+kept-first d h = record { plain = d .plain; some = h; keeps = d .keeps h }
+
+pub kept-second : {g : ℕ} {s : Float} → Derived g s → 32 ≤ magUnits s → Kept g (secondScale s)
+kept-second {g} {s} d h =
+    let z = secondScale s in
+    let room : 2 ^ 2060 * (2 * U) < 2 ^ 2097 * U = lit≤ tt in
+    let c : Close z false (magUnits s * magUnits ratio64) U =
+    subst (λ (b : Bool). Close z b (magUnits s * magUnits ratio64) U) (ap (λ (b : Bool). unlike b false) (d .plain .sign))
+    (mul-close s ratio64 (d .plain .fit) (ratio-is .plain .fit) (d .plain .fin) tt
+    (lt-of-le-of-lt (mul-le-mul (d .top) (twice (magUnits ratio64) U (ratio-is .hi))) room)) in
+    let low : 112 * magUnits s ≤ 100 * magUnits z + 51 =
+    cancel 112 100 51 (magUnits s) (magUnits z) U (pow-pos 1074)
+    (go (magUnits s * U) (magUnits s * magUnits ratio64) (magUnits z * U) U (times-low 113 100 (magUnits s) (magUnits ratio64) U (ratio-is .lo))
+    (at-least (magUnits s * magUnits ratio64) (magUnits z * U) U (c .lo))) in
+    let more : magUnits s ≤ magUnits z = grows (magUnits s) (magUnits z) low h in
+    record {
+      plain = record { fit = c .fit; fin = c .fin; sign = c .sign };
+      some = le-trans h more;
+      keeps = le-trans (d .keeps h) (mul-le-mul-left 159 more);
+    }
+  where
+    twice : (a u : ℕ) → 100 * a ≤ 115 * u → a ≤ 2 * u
+    twice a u h = omega arith
+
+    go : (su sr c u : ℕ) → 113 * su ≤ 100 * sr → 999 * sr ≤ 1000 * c + 500 * u → 112 * su ≤ 100 * c + 51 * u
+    go su sr c u h k = omega arith
+
+    grows : (s z : ℕ) → 112 * s ≤ 100 * z + 51 → 32 ≤ s → s ≤ z
+    grows s z l h = omega arith

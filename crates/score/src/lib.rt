@@ -1,6 +1,7 @@
 // The score of a point and the scales that `encode` derives: `t_of`, `lower_scale` and the head of `encode` of the Rust's encoder.rs, with the
 // refusals of document 01 for samples and scales. Every call answers for every input.
 ghost use mathlib.Core.Path.{_≡_};
+ghost use Rattle.float.specs.Calls.{absOf};
 ghost use Rattle.score.specs.Samples.{unbounded, exceeds, some, sampleNumber, isScale, scaleNumber};
 ghost use Rattle.score.specs.Score.{dotOf, doublesOf, scoreOf, tOf, scored};
 ghost use Rattle.score.specs.Scale.{larger, largestOf, unitNorm, scaleWith, isNormal, lowerScale, scales, choiceOf, secondScale};
@@ -154,10 +155,12 @@ pub fn t_of(samples: [f64; 24], point: [i32; 24]) -> Scored
 
 // ---- the scale
 
-fn max(a: f64, b: f64) -> f64
-    ensures { λ r. ⌜ r ≡ larger a b ⌝ }
+// The larger of m and the magnitude of v.
+fn grown(m: f64, v: f64) -> f64
+    ensures { λ r. ⌜ r ≡ larger m (absOf v) ⌝ }
 {
-    if a < b { b } else { a }
+    let a = float::abs(v);
+    if m < a { a } else { m }
 }
 
 fn largest(x: [f64; 24]) -> f64
@@ -166,7 +169,7 @@ fn largest(x: [f64; 24]) -> f64
     let mut m = 0.0;
     let mut i = 0usize;
     while i < 24usize {
-        m = max(m, float::abs(x[i]));
+        m = grown(m, x[i]);
         i += 1usize;
     }
     m

@@ -3,10 +3,9 @@ use mathlib.Core.Path.{_≡_, refl, sym, ap, _∙_}
 use Prim.Native.Nat.{_≤_, _+_, _-_}
 use native.Mathlib.Omega.{arith}
 use borrow.Author.Needs.{needs}
-use lib.ListN.{length, drop, getD}
-use lib.Ieee.{Float, nan, ofBits}
-use Rattle.float.specs.Calls.{absOf}
-use Rattle.score.specs.Scale.{larger, largestFrom, largestOf}
+use lib.ListN.{length, drop}
+use lib.Ieee.{Float, ofBits}
+use Rattle.score.specs.Scale.{largestFrom, largestOf}
 use Rattle.score.proofs.Lists.{largest-next, largest-done}
 use Rattle.score.proofs.largest.Statement.{statement}
 use Rattle.score.proofs.largest.Tie as tie
@@ -21,17 +20,14 @@ loop-holds : tie.Need-loop-holds Inv-loop μ-loop
 unfolding ofBits
 loop-holds c = (omega arith, refl)
 
-mul-abs : tie.Need-mul-abs Inv-loop μ-loop
-mul-abs c = omega arith
+mul-grown : tie.Need-mul-grown Inv-loop μ-loop
+mul-grown c = omega arith
 
-array-read-abs : tie.Need-array-read-abs Inv-loop μ-loop
-array-read-abs c = omega arith
+array-read-grown : tie.Need-array-read-grown Inv-loop μ-loop
+array-read-grown c = omega arith
 
-abs-requires : tie.Need-abs-requires Inv-loop μ-loop
-abs-requires c κs = search needs
-
-max-requires : tie.Need-max-requires Inv-loop μ-loop
-max-requires c κs = search needs
+grown-requires : tie.Need-grown-requires Inv-loop μ-loop
+grown-requires c κs = search needs
 
 add-i : tie.Need-add-i Inv-loop μ-loop
 add-i c = omega arith
@@ -41,14 +37,13 @@ loop-less c = omega arith
 
 loop-again : tie.Need-loop-again Inv-loop μ-loop
 loop-again c =
-    let at = c .before .before .before .loop in
-    let x = c .before .before .before .before .args .t1 in
-    let n : length x ≡ 24 = search needs in
-    let e : c .max .result ≡ larger (at .m) (absOf (getD x (at .i) nan)) = c .max .ensures ∙ ap (larger (at .m)) (c .before .abs .ensures) in (
+    let at = c .before .before .loop in
+    let x = c .before .before .before .args .t1 in
+    let n : length x ≡ 24 = search needs in (
       omega arith,
       at .inv .1
-          ∙ largest-next (at .m) x (at .i) (omega (arith, c .before .before .loop-test .taken))
-          ∙ ap (λ (m : Float). largestFrom m (drop (at .i + 1) x)) (sym e),
+          ∙ largest-next (at .m) x (at .i) (omega (arith, c .before .loop-test .taken))
+          ∙ ap (λ (m : Float). largestFrom m (drop (at .i + 1) x)) (sym (c .grown .ensures)),
     )
 
 returns : tie.Need-returns Inv-loop μ-loop
@@ -61,4 +56,4 @@ returns c =
 pub largest-spec : {M : Type 1} → statement M
 largest-spec =
     tie.close
-    (tie.spec Inv-loop μ-loop loop-holds mul-abs array-read-abs abs-requires max-requires add-i loop-less loop-again returns)
+    (tie.spec Inv-loop μ-loop loop-holds mul-grown array-read-grown grown-requires add-i loop-less loop-again returns)

@@ -1,5 +1,5 @@
 -- `score::sample_number` meets its contract: each number where the tests are as its arm found them. Assumes nothing.
-use mathlib.Core.Path.{_≡_, sym, _∙_}
+use mathlib.Core.Path.{sym, _∙_}
 use borrow.Author.Needs.{needs}
 use lib.Ieee.{ofBits}
 use Rattle.score.specs.Samples.{sampleNumber}

@@ -1,9 +1,8 @@
 -- `score::t_of` meets its contract. Assumes nothing.
-use mathlib.Core.Path.{_≡_, sym, _∙_}
+use mathlib.Core.Path.{sym, _∙_}
 use borrow.Author.Needs.{needs}
 use borrow.Author.Tests.{ne-eqb}
 use lib.Ieee.{ofBits}
-use Rattle.score.specs.Score.{scored}
 use Rattle.score.proofs.t_of.Statement.{statement}
 use Rattle.score.proofs.t_of.Tie as tie
 
