@@ -253,9 +253,13 @@ fn dists(e: [Coord; 128]) -> [f64; 640]
     ensures { λ r. ⌜ r ≡ distsOf e ⌝ }
 {
     let mut v = [0.0f64; 640];
-    for i in 0..640usize {
-        let c = e[i / 5];
-        v[i] = c.d[i % 5];
+    for i in 0..128usize {
+        let c = e[i];
+        v[5 * i] = c.d[0];
+        v[5 * i + 1] = c.d[1];
+        v[5 * i + 2] = c.d[2];
+        v[5 * i + 3] = c.d[3];
+        v[5 * i + 4] = c.d[4];
     }
     v
 }
@@ -264,9 +268,13 @@ fn weights(e: [Coord; 128]) -> [u16; 640]
     ensures { λ r. ⌜ r ≡ weightsOf e ⌝ }
 {
     let mut v = [0u16; 640];
-    for i in 0..640usize {
-        let c = e[i / 5];
-        v[i] = c.w[i % 5];
+    for i in 0..128usize {
+        let c = e[i];
+        v[5 * i] = c.w[0];
+        v[5 * i + 1] = c.w[1];
+        v[5 * i + 2] = c.w[2];
+        v[5 * i + 3] = c.w[3];
+        v[5 * i + 4] = c.w[4];
     }
     v
 }
@@ -275,9 +283,13 @@ fn ranks(e: [Coord; 128]) -> [u8; 640]
     ensures { λ r. ⌜ r ≡ ranksOf e ⌝ }
 {
     let mut v = [0u8; 640];
-    for i in 0..640usize {
-        let c = e[i / 5];
-        v[i] = c.rank[i % 5];
+    for i in 0..128usize {
+        let c = e[i];
+        v[5 * i] = c.rank[0];
+        v[5 * i + 1] = c.rank[1];
+        v[5 * i + 2] = c.rank[2];
+        v[5 * i + 3] = c.rank[3];
+        v[5 * i + 4] = c.rank[4];
     }
     v
 }
