@@ -19,7 +19,8 @@ use Rattle.search.specs.Entries.{Rule}
 use Rattle.search.specs.Parity.{Targets, search}
 use Rattle.search.specs.Record.{member, bitAt}
 use Rattle.search.specs.declared.Winner.{Winner}
-use Rattle.nearest.specs.Statement.{oddK, sumTo, parK, RuleOk, at24, pointOf, sections}
+use Rattle.search.specs.Block.{sections, pointAt}
+use Rattle.nearest.specs.Statement.{oddK, sumTo, parK, RuleOk, at24}
 use Rattle.nearest.specs.Sums.{sum-same}
 use Rattle.nearest.specs.Lattice.{Point, Same, dist8, dist24, Margin, M, own1, own2, own3}
 use Rattle.nearest.specs.Steps.{ltb-yes, ltb-no}
@@ -345,9 +346,9 @@ module _ (g : Tables) (B : Bytes g) where
         is-y : IsY g u S G0 ps PS (λ q i. all-facts g G1 u U0 S small1 small2 small3 q (PS q i)) (sec1 y) (sec2 y) (sec3 y) margin (search g u S ps)
         is-y = demand-three g G0 G1 u U0 S small1 small2 small3 ps PS (L .p) I0 (sec1 y) (sec2 y) (sec3 y) Y W margin
 
-        pub point-at : (j : ℕ) → j < 24 → pointOf (search g u (sections t) ps) j ≡ at24 y j
+        pub point-at : (j : ℕ) → j < 24 → pointAt (search g u (sections t) ps) j ≡ at24 y j
         unfolding glue
-        point-at = all24 (λ j. pointOf (search g u (sections t) ps) j ≡ at24 y j)
+        point-at = all24 (λ j. pointAt (search g u (sections t) ps) j ≡ at24 y j)
             (λ j h. glue1 (secOf (w .p) (w .s1)) (secOf (w .p) (w .s2)) (secOf (w .p) (w .s3)) j h ∙ is-y .one j h)
             (λ j h. glue2 (secOf (w .p) (w .s1)) (secOf (w .p) (w .s2)) (secOf (w .p) (w .s3)) j h ∙ is-y .two j h)
             (λ j h. glue3 (secOf (w .p) (w .s1)) (secOf (w .p) (w .s2)) (secOf (w .p) (w .s3)) j h ∙ is-y .three j h)
