@@ -21,6 +21,8 @@ pub mod Winner
 pub mod Parities
 -- packed rows, candidates, the section search
 pub mod Keys
+pub mod Shape
+pub mod Rule
 pub mod Candidate
 pub mod Steps
 pub mod Pairs
