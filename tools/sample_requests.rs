@@ -2,8 +2,11 @@
 //!
 //!     rustc -O tools/sample_requests.rs -o target/sample_requests
 //!     target/sample_requests SEED N
+//!     target/sample_requests SEED N quiet|noisy
 //!
 //! Each of N turns is one block, printed as a `scale` request at a scale of its own and as an `auto` request. The settings go round from 1 to 9.
+//! With a third word the blocks are those that speed is measured on, as `auto` requests at setting 8: quiet ones run along a slow wave with a
+//! hundredth of it as noise, noisy ones are noise alone.
 use std::io::Write;
 
 struct Rng(u64);
@@ -79,10 +82,24 @@ fn block(r: &mut Rng, shape: u64) -> ([f64; 24], f64) {
     (x, scale)
 }
 
+/// A block of a trace.
+fn trace(r: &mut Rng, quiet: bool) -> [f64; 24] {
+    let (size, phase, step) = (100.0 + 900.0 * r.unit(), 6.3 * r.unit(), 0.02 + 0.2 * r.unit());
+    core::array::from_fn(|j| if quiet { size * ((phase + step * j as f64).sin() + 0.01 * r.normal()) } else { size * r.normal() })
+}
+
 fn main() {
-    let args: Vec<u64> = std::env::args().skip(1).map(|a| a.parse().expect("SEED N")).collect();
+    let words: Vec<String> = std::env::args().skip(1).collect();
+    let args: Vec<u64> = words.iter().take(2).map(|a| a.parse().expect("SEED N")).collect();
     let mut r = Rng(args[0]);
     let mut out = std::io::BufWriter::new(std::io::stdout().lock());
+    if let Some(kind) = words.get(2) {
+        for _ in 0..args[1] {
+            let samples = trace(&mut r, kind == "quiet").map(|v| format!("{:016x}", v.to_bits())).join(" ");
+            writeln!(out, "auto 8 {samples}").unwrap();
+        }
+        return;
+    }
     for i in 0..args[1] {
         let (x, scale) = block(&mut r, i % 16);
         let samples = x.map(|v| format!("{:016x}", v.to_bits())).join(" ");

@@ -1,14 +1,15 @@
 // Answers each request line of standard input with one line on standard output.
 //
-//   decode W          W: 1 to 16 hex digits, either case                 -> point=c0,..,c23
-//   point C0 .. C23   C: an i32, decimal digits with a - or no sign      -> word=W12, or refused=5
-//   scale N S X0 .. X23         N: a setting, decimal digits; S, X: 1 to 16 hex digits, the bits of a double
-//                                                              -> word=W12 score=B16 point=c0,..,c23, or refused=K
-//   auto N X0 .. X23            the same at the scale that the samples give
-//   lower X0 .. X23                                            -> max=B16 scale=B16, or refused=K
-//   score X0 .. X23 C0 .. C23                                  -> score=B16, or refused=K
+//   decode W                    W: 1 to 16 hex digits, either case             -> point=c0,..,c23
+//   point C0 .. C23             C: an i32, decimal digits with a - or no sign  -> word=W12, or refused=5
+//   scale N S X0 .. X23         N: a setting, decimal digits; S, X: doubles    -> word=W12 score=B16 point=c0,..,c23, or refused=K
+//   auto N X0 .. X23            at the scale that the samples give             -> the same
+//   lower X0 .. X23             the largest magnitude and the lower scale      -> max=B16 scale=B16, or refused=K
+//   score X0 .. X23 C0 .. C23   the score of samples and a point               -> score=B16, or refused=K
 //
-// A double is answered by the 16 hex digits of its bits, a zero with its sign cleared. The words of a line stand one space apart, and its end is an LF, which the last line may lack. A line that is no
+// A double is given by 1 to 16 hex digits of its bits and answered by 16, a zero with its sign cleared.
+//
+// The words of a line stand one space apart, and its end is an LF, which the last line may lack. A line that is no
 // request, and one of 1,024 bytes or more, is answered by refused=9.
 mod parse;
 mod text;

@@ -27,7 +27,8 @@ use Rattle.search.specs.Parity.{bothParities}
 use Rattle.search.specs.Block.{winnerFor, pointFrom}
 use Rattle.members.specs.Members as members
 use Rattle.encoder.specs.declared.Code.{Code}
-use Rattle.encoder.specs.Encode.{zeroCode, codeOf, codeFor, numberAt, encodeAtOver, encodeAtScale, higher, twoScales, scaledBack, codeAt, numberOf, encodeOver, encodeWith}
+use Rattle.encoder.specs.Encode.{zeroCode, codeOf, codeFor, numberAt, encodeAtOver, encodeAtScale}
+use Rattle.encoder.specs.Encode.{higher, twoScales, scaledBack, codeAt, numberOf, encodeOver, encodeWith}
 use Rattle.encoder.specs.Numbers.{zero-says, at-accepted, is-accepted}
 use Rattle.demands.specs.Targets.{accepted-at, target-at, first-fits, second-fits, quotients-fit}
 
@@ -81,15 +82,19 @@ module _ (ps : List ℕ) (W : (t : List Float) → members.Accepted t → (n : �
   unfolding codeFor
   for x s n l f d e = code-of x (winnerFor ps n (quotientsOf x s)) (W (quotientsOf x s) (target-at x s (accepted-at x s l f d e)) n)
 
-  pub at-scale-over : (x : List Float) (s : Float) (n : ℕ) → length x ≡ 24 → AllFit x → T (fits binary64 s) → numberAt x s n ≡ 0 → Coded (encodeAtOver ps x s n)
+  pub at-scale-over : (x : List Float) (s : Float) (n : ℕ) → length x ≡ 24 → AllFit x → T (fits binary64 s) → numberAt x s n ≡ 0
+      → Coded (encodeAtOver ps x s n)
   at-scale-over x s n l f d e = subst Coded (sym (at-accepted ps x s n e)) (for x s n l f d (zero-says n (scaleNumber x s) e .1))
 
-  two : (x : List Float) (s : Float) (n : ℕ) → length x ≡ 24 → AllFit x → T (fits binary64 s) → Keeps x s × Keeps x (secondScale s) → Coded (twoScales ps x s n)
+  two : (x : List Float) (s : Float) (n : ℕ) → length x ≡ 24 → AllFit x → T (fits binary64 s) → Keeps x s × Keeps x (secondScale s)
+      → Coded (twoScales ps x s n)
   unfolding twoScales
   two x s n l f d k =
-      either (codeFor ps x s n) (codeFor ps x (secondScale s) n) (for x s n l f d (k .0 .accepted)) (for x (secondScale s) n l f (second-fits s) (k .1 .accepted))
+      either (codeFor ps x s n) (codeFor ps x (secondScale s) n) (for x s n l f d (k .0 .accepted))
+      (for x (secondScale s) n l f (second-fits s) (k .1 .accepted))
 
-  by-choice : (h : Choice) (x : List Float) (n : ℕ) → length x ≡ 24 → AllFit x → T (fits binary64 (firstScale h)) → ((h ≡ Zero → ⊥) → KeepsBoth x h) → Coded (codeAt ps h x n)
+  by-choice : (h : Choice) (x : List Float) (n : ℕ) → length x ≡ 24 → AllFit x → T (fits binary64 (firstScale h))
+      → ((h ≡ Zero → ⊥) → KeepsBoth x h) → Coded (codeAt ps h x n)
   unfolding codeAt
   by-choice Zero x n l f d k = zeros _
   by-choice (Scale s) x n l f d k = two x s n l f d (k differs)
@@ -108,7 +113,8 @@ module _ (ps : List ℕ) (W : (t : List Float) → members.Accepted t → (n : �
       (by-choice (choiceOf x) x n l f (first-fits x) (choice-keeps x f (le-of-eq l) (zero-says n (sampleNumber x) e .1)))
 
 -- ---- the full coder
-pub at-scale : (x : List Float) (s : Float) (n : ℕ) → length x ≡ 24 → AllFit x → T (fits binary64 s) → numberAt x s n ≡ 0 → Coded (encodeAtScale x s n)
+pub at-scale : (x : List Float) (s : Float) (n : ℕ) → length x ≡ 24 → AllFit x → T (fits binary64 s) → numberAt x s n ≡ 0
+    → Coded (encodeAtScale x s n)
 at-scale = at-scale-over bothParities members.has-word
 
 pub samples : (x : List Float) (n : ℕ) → length x ≡ 24 → AllFit x → numberOf x n ≡ 0 → Coded (encodeWith x n)

@@ -22,7 +22,8 @@ pub record TwoCalls (ps : List ℕ) (x : List Float) (s : Float) (n : ℕ) : Typ
   pub second : numberAt x (secondScale s) n ≡ 0
   pub code : encodeOver ps x n ≡ higher (encodeAtOver ps x s n) (encodeAtOver ps x (secondScale s) n)
 
-pub two-calls : (ps : List ℕ) (x : List Float) (s : Float) (n : ℕ) → length x ≡ 24 → AllFit x → numberOf x n ≡ 0 → choiceOf x ≡ Scale s → TwoCalls ps x s n
+pub two-calls : (ps : List ℕ) (x : List Float) (s : Float) (n : ℕ) → length x ≡ 24 → AllFit x → numberOf x n ≡ 0 → choiceOf x ≡ Scale s
+    → TwoCalls ps x s n
 unfolding codeAt twoScales
 two-calls ps x s n l f e c =
     let k = subst (KeepsBoth x) c (choice-keeps x f (le-of-eq l) (zero-says n (sampleNumber x) e .1) (λ z. differs (sym c ∙ z))) in

@@ -78,7 +78,8 @@ target-at x s A =
       fin = t .bounded;
       low = λ j h. le-trans
           (exceeds-not million64 (getD (quotientsOf x s) j nan) million-fits tt refl (t .double j h) (t .bounded j h)
-          (subst (λ (q : Float). lt million64 (absOf q) ≡ false) (sym (quotients-at x s j (subst (λ (n : ℕ). j < n) (sym (A .size)) h))) (A .quotients j h)))
+          (subst (λ (q : Float). lt million64 (absOf q) ≡ false) (sym (quotients-at x s j (subst (λ (n : ℕ). j < n) (sym (A .size)) h)))
+          (A .quotients j h)))
           (le-of-eq million-units);
     }
 
@@ -103,7 +104,8 @@ first-fits x = go (eq (a .largest) zero64) (isNormal (a .scale))
     a = lowerScale x
 
     go : (z n : Bool)
-        → T (fits binary64 (firstScale (cond z Zero (cond n (Scale (a .scale)) (Divide (a .largest) (lowerScale (quotientsOf x (a .largest)) .scale))))))
+        → T (fits binary64
+        (firstScale (cond z Zero (cond n (Scale (a .scale)) (Divide (a .largest) (lowerScale (quotientsOf x (a .largest)) .scale))))))
     go true n = zero-fits
     go false true = lower-fits x
     go false false = lower-fits (quotientsOf x (a .largest))

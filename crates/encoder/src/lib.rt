@@ -9,7 +9,8 @@ ghost use Rattle.rank.specs.Coord.{valOf};
 ghost use Rattle.search.specs.Entries.{sectionAt};
 ghost use Rattle.search.specs.Parity.{bothParities};
 ghost use Rattle.search.specs.Block.{trioOf, pointAt, pointFrom, winnerFor};
-ghost use Rattle.encoder.specs.Encode.{zeroCode, codeOf, codeFor, encodeAtScale, higher, twoScales, scaledBack, codeAt, encodeWith, encodeSamples};
+ghost use Rattle.encoder.specs.Encode.{zeroCode, codeOf, codeFor, encodeAtScale};
+ghost use Rattle.encoder.specs.Encode.{higher, twoScales, scaledBack, codeAt, encodeWith, encodeSamples};
 use score::Choice;
 use search::Winner;
 

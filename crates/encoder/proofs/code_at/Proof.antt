@@ -55,7 +55,8 @@ unfolding codeAt
 returns-3 c =
     let s = c .before .before .before .before in
     let a = s .before .before .args in
-    divided (a .samples) (a .setting) _ _ (a .choice) _ _ _ (s .choice2 .given .1) (c .before .before .quotients .ensures) (c .before .two-scales2 .ensures)
+    divided (a .samples) (a .setting) _ _ (a .choice) _ _ _ (s .choice2 .given .1) (c .before .before .quotients .ensures)
+    (c .before .two-scales2 .ensures)
     (c .scaled-back .ensures)
 
 pub code-at-spec : {M : Type 1} → statement M

@@ -20,7 +20,8 @@ returns : tie.Need-returns
 unfolding codeFor
 returns c =
     let a = c .before .before .before .args in
-    c .code-of .ensures ∙ ap (codeOf (a .samples)) (c .before .winner-for .ensures ∙ ap (winnerFor bothParities (a .setting)) (c .before .before .quotients .ensures))
+    c .code-of .ensures
+    ∙ ap (codeOf (a .samples)) (c .before .winner-for .ensures ∙ ap (winnerFor bothParities (a .setting)) (c .before .before .quotients .ensures))
 
 pub code-for-spec : {M : Type 1} → statement M
 code-for-spec =

@@ -17,7 +17,9 @@ unfolding encodeAtOver ofBits
 returns c =
     let a = c .before .before .args in
     c .zero-code .ensures
-    ∙ sym (no-setting (a .setting) (scaleNumber (a .samples) (a .scale)) (codeFor bothParities (a .samples) (a .scale) (a .setting)) (c .before .if1 .taken))
+    ∙ sym
+    (no-setting (a .setting) (scaleNumber (a .samples) (a .scale)) (codeFor bothParities (a .samples) (a .scale) (a .setting))
+    (c .before .if1 .taken))
 
 scale-number-requires : tie.Need-scale-number-requires
 scale-number-requires c κs = search needs
@@ -32,7 +34,8 @@ returns-2 c =
     let a = s .before .before .args in
     let e = s .scale-number .ensures in
     c .zero-code2 .ensures ∙ ap emptyCode e
-    ∙ sym (refused (a .setting) (scaleNumber (a .samples) (a .scale)) (codeFor bothParities (a .samples) (a .scale) (a .setting)) (s .before .if1 .left)
+    ∙ sym
+    (refused (a .setting) (scaleNumber (a .samples) (a .scale)) (codeFor bothParities (a .samples) (a .scale) (a .setting)) (s .before .if1 .left)
     (λ q. c .before .if2 .taken (e ∙ q)))
 
 code-for-requires : tie.Need-code-for-requires
@@ -44,7 +47,8 @@ returns-3 c =
     let s = c .before .before in
     let a = s .before .before .args in
     c .code-for .ensures
-    ∙ sym (accepted (a .setting) (scaleNumber (a .samples) (a .scale)) (codeFor bothParities (a .samples) (a .scale) (a .setting)) (s .before .if1 .left)
+    ∙ sym
+    (accepted (a .setting) (scaleNumber (a .samples) (a .scale)) (codeFor bothParities (a .samples) (a .scale) (a .setting)) (s .before .if1 .left)
     (sym (s .scale-number .ensures) ∙ c .before .if2 .left))
 
 pub encode-at-scale-spec : {M : Type 1} → statement M

@@ -39,7 +39,8 @@ returns-2 c =
     let a = s .before .before .args in
     let e = s .sample-number .ensures in
     c .zero-code2 .ensures ∙ ap emptyCode e
-    ∙ sym (refused (a .setting) (sampleNumber (a .samples)) (whole (a .samples) (a .setting)) (s .before .if1 .left) (λ q. c .before .if2 .taken (e ∙ q)))
+    ∙ sym (refused (a .setting) (sampleNumber (a .samples)) (whole (a .samples) (a .setting)) (s .before .if1 .left)
+    (λ q. c .before .if2 .taken (e ∙ q)))
 
 choice-of-requires : tie.Need-choice-of-requires
 choice-of-requires c κs = search needs

@@ -31,7 +31,8 @@ higher-requires c κs = search needs
 returns : tie.Need-returns
 returns c =
     let a = c .before .before .before .before .args in
-    both (a .samples) (a .scale) (a .setting) (c .before .before .before .code-for .ensures) (c .before .before .second-scale .ensures) (c .before .code-for2 .ensures)
+    both (a .samples) (a .scale) (a .setting) (c .before .before .before .code-for .ensures) (c .before .before .second-scale .ensures)
+    (c .before .code-for2 .ensures)
     (c .higher .ensures)
 
 pub two-scales-spec : {M : Type 1} → statement M

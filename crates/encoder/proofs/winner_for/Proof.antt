@@ -48,7 +48,8 @@ returns c =
     let a = s .before .before .args in
     c .search .ensures
     ∙ ap (λ (t : Targets). parity.search tables (ruleOf (a .setting)) t bothParities)
-    (cut (a .t) (s .before .trio .result) _ _ _ (s .before .trio .ensures) (s .section .ensures) (c .before .before .section2 .ensures) (c .before .section3 .ensures))
+    (cut (a .t) (s .before .trio .result) _ _ _ (s .before .trio .ensures) (s .section .ensures)
+    (c .before .before .section2 .ensures) (c .before .section3 .ensures))
 
 pub winner-for-spec : {M : Type 1} → statement M
 winner-for-spec =
