@@ -157,8 +157,8 @@ pub(crate) fn read_double(s: &[u8], at: usize) -> Double {
 pub(crate) fn read_samples(s: &[u8], at: usize) -> Samples {
     let mut x = [0.0f64; 24];
     let mut next = at;
-    let mut j = 0;
-    while j < 24 {
+    let mut k = 0;
+    while k < 24 {
         let Double::Read(v, after) = read_double(s, next) else {
             return Samples {
                 good: false,
@@ -166,9 +166,9 @@ pub(crate) fn read_samples(s: &[u8], at: usize) -> Samples {
                 x,
             };
         };
-        x[j] = v;
+        x[k] = v;
         next = after;
-        j += 1;
+        k += 1;
     }
     Samples {
         good: true,

@@ -5,10 +5,10 @@ use Rattle.ask.proofs.parse.read_samples.Statement.{statement}
 use Rattle.ask.proofs.parse.read_samples.Tie as tie
 
 abbrev Inv-loop : tie.InvT-loop
-Inv-loop s at x₀ next₀ j₀ x next j = j ≤ 24
+Inv-loop s at x₀ next₀ k₀ x next k = k ≤ 24
 
 abbrev μ-loop : tie.MeasureT-loop
-μ-loop s at x₀ next₀ j₀ x next j = 24 - j
+μ-loop s at x₀ next₀ k₀ x next k = 24 - k
 
 loop-holds : tie.Need-loop-holds Inv-loop μ-loop
 loop-holds c = search needs
@@ -31,8 +31,8 @@ mul-x c = search needs
 array-write-x : tie.Need-array-write-x Inv-loop μ-loop
 array-write-x c = search needs
 
-add-j : tie.Need-add-j Inv-loop μ-loop
-add-j c = search needs
+add-k : tie.Need-add-k Inv-loop μ-loop
+add-k c = search needs
 
 loop-less : tie.Need-loop-less Inv-loop μ-loop
 loop-less c = search needs
@@ -56,7 +56,7 @@ read-samples-spec =
     returns
     mul-x
     array-write-x
-    add-j
+    add-k
     loop-less
     loop-again
     returns-2)
