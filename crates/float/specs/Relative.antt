@@ -171,7 +171,11 @@ half-rescale g n den v w D e h = (
   le-of-mul-le-mul-right
       (le-trans (le-of-eq (mul-right-comm v 2 den ∙ ap (λ (z : ℕ). z * 2) (sym e) ∙ mul-right-comm n w 2))
       (le-trans (mul-le-mul-right w (h .1))
-      (le-of-eq (add-mul (g * den * 2) den w ∙ ap (λ (z : ℕ). z + den * w) (sym left) ∙ ap (λ (z : ℕ). g * w * 2 * den + z) (mul-comm den w) ∙ sym (add-mul (g * w * 2) w den)))))
+      (le-of-eq
+      (add-mul (g * den * 2) den w
+      ∙ ap (λ (z : ℕ). z + den * w) (sym left)
+      ∙ ap (λ (z : ℕ). g * w * 2 * den + z) (mul-comm den w)
+      ∙ sym (add-mul (g * w * 2) w den)))))
       D,
 )
   where
@@ -215,7 +219,13 @@ fraction-close {z} {s} {v} {w} f W high =
     elim (le-or-lt (2 ^ 52 * w) v) [
       | inl low ↦
           let r = fraction-relative f W low high in
-          record { fit = r .fit; fin = r .fin; sign = r .sign; hi = more (magUnits z * w * 2 ^ 53) (v * 2 ^ 53 + v) (r .hi); lo = more (v * 2 ^ 53) (magUnits z * w * 2 ^ 53 + v) (r .lo) }
+          record {
+            fit = r .fit;
+            fin = r .fin;
+            sign = r .sign;
+            hi = more (magUnits z * w * 2 ^ 53) (v * 2 ^ 53 + v) (r .hi);
+            lo = more (v * 2 ^ 53) (magUnits z * w * 2 ^ 53 + v) (r .lo);
+          }
       | inr l ↦ fraction-small f l
     ]
   where

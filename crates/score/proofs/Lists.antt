@@ -12,6 +12,7 @@ use Rattle.float.specs.Calls.{absOf, sumFrom}
 use Rattle.score.specs.Samples.{some}
 use Rattle.score.specs.Score.{products, doublesOf}
 use Rattle.score.specs.Scale.{larger, largestFrom}
+use Rattle.score.specs.ScoreLaws.{doubles-length}
 
 -- ---- one passes the test: the next one does, or not, or none is left
 module _ (f : Float → Bool) (xs : List Float) (i : ℕ) where
@@ -49,11 +50,6 @@ unfolding largestFrom
 largest-done m xs i h = ap (largestFrom m) (sym (drop-of-length-le xs h))
 
 -- ---- whole numbers as doubles
-doubles-length : (ys : List ℤ) → length (doublesOf ys) ≡ length ys
-unfolding doublesOf
-doubles-length [] = refl
-doubles-length (y ∷ ys) = ap suc (doubles-length ys)
-
 doubles-at : (ys : List ℤ) (k : ℕ) → k < length ys → getD (doublesOf ys) k nan ≡ ofInt binary64 (getD ys k (pos 0))
 unfolding doublesOf
 doubles-at [] k h = absurd (not-suc-le-zero h)

@@ -13,7 +13,7 @@ use Rattle.laws.specs.Tests.{true-is}
 use Rattle.float.specs.Value.{magUnits, isMinus, posUnits, negUnits, zero64}
 use Rattle.float.specs.Calls.{absOf}
 use Rattle.float.specs.Exact.{Parts, parts, zero-fits, zero-mag}
-use Rattle.float.specs.Compare.{lt-is, not-lt-is}
+use Rattle.float.specs.Compare.{lt-is, is-lt, not-lt-is}
 use Rattle.float.specs.Near.{abs-exactly}
 use Rattle.score.specs.Scale.{larger, largestFrom, largestOf}
 use Rattle.score.specs.SampleLaws.{UpTo, Each, none, more}
@@ -29,6 +29,14 @@ pub record Plain (x : Float) : Type 0 where
   pub fin : T (finite x)
   pub sign : isMinus x ≡ false
 
+pub above-zero : (s : Float) → Plain s → 0 < magUnits s → T (lt zero64 s)
+above-zero s p h =
+    let w = parts s false (p .sign) in
+    is-lt zero64 s zero-fits (p .fit) tt (p .fin) (go (posUnits s) (negUnits s) (magUnits s) (magUnits zero64) (w .0) (w .1) zero-mag h)
+  where
+    go : (a b m z : ℕ) → a ≡ m → b ≡ 0 → z ≡ 0 → 0 < m → z + b < a + 0
+    go a b m z i j k h = omega arith
+
 -- ---- the larger of two
 record Larger (a b r : Float) : Type 0 where
   plain : Plain r
@@ -37,7 +45,8 @@ record Larger (a b r : Float) : Type 0 where
   one : (magUnits r ≡ magUnits a) ⊎ (magUnits r ≡ magUnits b)
 
 larger-is : (a b : Float) → Plain a → Plain b → Larger a b (larger a b)
-larger-is a b p q = go (lt a b) (λ e. lt-is a b (p .fit) (q .fit) (p .fin) (q .fin) (true-is (lt a b) e)) (not-lt-is a b (p .fit) (q .fit) (p .fin) (q .fin))
+larger-is a b p q =
+    go (lt a b) (λ e. lt-is a b (p .fit) (q .fit) (p .fin) (q .fin) (true-is (lt a b) e)) (not-lt-is a b (p .fit) (q .fit) (p .fin) (q .fin))
   where
     u : Parts false a
     u = parts a false (p .sign)

@@ -8,4 +8,5 @@ pub mod LargestLaws
 pub mod NormLaws
 pub mod ScaleLaws
 pub mod QuotientLaws
+pub mod ScoreLaws
 pub mod Examples

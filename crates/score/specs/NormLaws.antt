@@ -1,4 +1,4 @@
--- The norm of the samples over their largest magnitude lies between 1023 / 1024 and 16. Assumes nothing.
+-- The norm of the samples over their largest magnitude lies between 0.999 and 157 / 32, which is 4.90625. Assumes nothing.
 use mathlib.Core.Path.{_≡_, refl, sym, ap, _∙_, subst}
 use mathlib.Core.Bool.{Bool, true, false, cond}
 use mathlib.Core.List.{List, [], _∷_}
@@ -21,7 +21,7 @@ use native.Mathlib.Nat.{
 }
 use native.Mathlib.Omega.{arith}
 use lib.Dec.{T, lit≤}
-use lib.IntN.{pos, negsuc}
+use lib.IntN.{negsuc}
 use lib.ListN.{length}
 use lib.Pow.{pow-pos}
 use lib.Ieee.{Float, fin, binary64, fits, mul, div, unlike}
@@ -87,18 +87,18 @@ sq q u = mul-rounded q q 2 (u .fit) (u .fit) (u .fin) (u .fin) (lit≤ tt) (lt-o
     room : (U + 2 ^ 1021) * (U + 2 ^ 1021) < 2 ^ 1076 * U
     room = lit≤ tt
 
-same-sign : (s : Bool) → unlike s s ≡ false
+pub same-sign : (s : Bool) → unlike s s ≡ false
 same-sign false = refl
 same-sign true = refl
 
 record Square (t : Float) : Type 0 where
   plain : Plain t
-  le : magUnits t ≤ 2 * U
+  le : magUnits t ≤ U + 2 ^ 1026
 
 square : (q : Float) → UpTo (U + 2 ^ 1021) q → Square (mul binary64 q q)
 square q u =
     let r = sq q u in
-    let room : (U + 2 ^ 1021) * (U + 2 ^ 1021) + 2 ^ 1022 * U ≤ 2 * U * U = lit≤ tt in
+    let room : (U + 2 ^ 1021) * (U + 2 ^ 1021) + 2 ^ 1022 * U ≤ (U + 2 ^ 1026) * U = lit≤ tt in
     record {
       plain = record { fit = r .fit; fin = r .fin; sign = r .sign ∙ same-sign (isMinus q) };
       le = le-of-mul-le-mul-right (le-trans (r .hi) (le-trans (add-le-add (mul-le-mul (u .le) (u .le)) (le-refl (2 ^ 1022 * U))) room)) (pow-pos 1074);
@@ -140,12 +140,15 @@ terms (t ∷ ts) (more s e) =
     (subst (λ (z : ℕ). Near 1 t (posUnits t) z 0) (p .1) (near-self t (s .plain .fit) (s .plain .fin))) in
     sums.more n (terms ts e)
 
-total-le : (ts : List Float) → Each Square ts → total ts ≤ length ts * (2 * U)
+total-le : (ts : List Float) → Each Square ts → total ts ≤ length ts * (U + 2 ^ 1026)
 unfolding total
 total-le [] none = zero-le
 total-le (t ∷ ts) (more s e) =
-    le-trans (add-le-add (s .le) (total-le ts e)) (le-of-eq (flip (2 * U) (length ts * (2 * U)) ∙ sym (suc-mul (length ts) (2 * U))))
+    le-trans (add-le-add (s .le) (total-le ts e)) (le-of-eq (flip most (length ts * most) ∙ sym (suc-mul (length ts) most)))
   where
+    most : ℕ
+    most = U + 2 ^ 1026
+
     flip : (a b : ℕ) → a + b ≡ b + a
     flip a b = omega arith
 
@@ -179,17 +182,17 @@ module _ (m : Float) (p : Plain m) (M : 0 < magUnits m) where
       grow : (a b u c : ℕ) → u ≤ b + c → u ≤ a + b + c
       grow a b u c h = omega arith
 
--- a number near one from v to 48 units is no minus
+-- a number near one that is 1 at least and 24 at most, but for a bit
 record Sum (x : Float) : Type 0 where
   fit : T (fits binary64 x)
   fin : T (finite x)
   sign : isMinus x ≡ false
   low : U ≤ magUnits x + 2 ^ 1032
-  high : magUnits x ≤ 49 * U
+  high : magUnits x ≤ 24 * U + 2 ^ 1032
 
-sum-of : (x : Float) (v : ℕ) → Near 1 x v 0 (2 ^ 1031) → U ≤ v + 2 ^ 1024 → v ≤ 48 * U → Sum x
+sum-of : (x : Float) (v : ℕ) → Near 1 x v 0 (2 ^ 1031) → U ≤ v + 2 ^ 1024 → v ≤ 24 * (U + 2 ^ 1026) → Sum x
 sum-of x v n low high =
-    let top : 48 * U + 2 ^ 1031 ≤ 49 * U = lit≤ tt in
+    let top : 24 * (U + 2 ^ 1026) + 2 ^ 1031 ≤ 24 * U + 2 ^ 1032 = lit≤ tt in
     let both : 2 ^ 1031 + 2 ^ 1024 ≤ 2 ^ 1032 = lit≤ tt in
     let far : 2 ^ 1031 + 2 ^ 1024 < U = lit≤ tt in
     record {
@@ -211,20 +214,21 @@ sum-of x v n low high =
     up a e f u h l = omega arith
 
 -- ---- the norm
-sixteen64 : Float
-sixteen64 = fin false 1 (pos 4)
+-- 157 / 32, a little more than the root of 24
+most64 : Float
+most64 = fin false 157 (negsuc 4)
 
 -- 1023 / 1024
 nearly64 : Float
 nearly64 = fin false 1023 (negsuc 9)
 
-sixteen-is : UpTo (16 * U) sixteen64
-unfolding sixteen64 fits magUnits
-sixteen-is = record { fit = tt; fin = tt; le = lit≤ tt }
+most-is : UpTo (5 * U) most64
+unfolding most64 fits magUnits
+most-is = record { fit = tt; fin = tt; le = lit≤ tt }
 
-sixteen-units : magUnits sixteen64 ≡ 16 * U
-unfolding sixteen64 magUnits
-sixteen-units = refl
+most-units : magUnits most64 ≡ 157 * 2 ^ 1069
+unfolding most64 magUnits
+most-units = refl
 
 nearly-is : UpTo U nearly64
 unfolding nearly64 fits magUnits
@@ -237,7 +241,7 @@ nearly-units = refl
 pub record Norm (n : Float) : Type 0 where
   pub plain : Plain n
   pub low : 999 * U ≤ 1000 * magUnits n
-  pub high : magUnits n ≤ 16 * U
+  pub high : 32 * magUnits n ≤ 157 * U
 
 root-is : (x : Float) → Sum x → 0 < magUnits x → Norm (rooted x .root)
 root-is x s P =
@@ -245,19 +249,20 @@ root-is x s P =
     let n = rooted-nearest x (s .fit) (s .fin) (s .sign) P in
     let g : U - 2 ^ 1032 ≤ magUnits x = down U (2 ^ 1032) (magUnits x) (s .low) in
     let a : 1023 * 2 ^ 1064 * (1023 * 2 ^ 1064) ≤ (U - 2 ^ 1032) * U = lit≤ tt in
-    let b : 49 * U * U ≤ 16 * U * (16 * U) = lit≤ tt in
+    let b : (24 * U + 2 ^ 1032) * U ≤ 157 * 2 ^ 1069 * (157 * 2 ^ 1069) = lit≤ tt in
+    let d : 32 * (157 * 2 ^ 1069) ≤ 157 * U = lit≤ tt in
     let c : 999 * U ≤ 1000 * (1023 * 2 ^ 1064) = lit≤ tt in
     let lo : 1023 * 2 ^ 1064 ≤ magUnits r =
     le-trans (le-of-eq (sym nearly-units))
     (root-from x r nearly64 n (nearly-is .fit) (nearly-is .fin)
     (le-trans (le-of-eq (ap (λ (z : ℕ). z * z) nearly-units)) (le-trans a (mul-le-mul-right U g)))) in
-    let hi : magUnits r ≤ magUnits sixteen64 =
-    root-upto x r sixteen64 n (sixteen-is .fit) (sixteen-is .fin)
-    (le-trans (mul-le-mul-right U (s .high)) (le-trans b (le-of-eq (sym (ap (λ (z : ℕ). z * z) sixteen-units))))) in
+    let hi : magUnits r ≤ magUnits most64 =
+    root-upto x r most64 n (most-is .fit) (most-is .fin)
+    (le-trans (mul-le-mul-right U (s .high)) (le-trans b (le-of-eq (sym (ap (λ (z : ℕ). z * z) most-units))))) in
     record {
       plain = record { fit = n .fit; fin = n .fin; sign = n .sign };
       low = le-trans c (mul-le-mul-left 1000 lo);
-      high = le-trans hi (le-of-eq sixteen-units);
+      high = le-trans (mul-le-mul-left 32 (le-trans hi (le-of-eq most-units))) d;
     }
   where
     down : (a b c : ℕ) → a ≤ c + b → a - b ≤ c
@@ -277,17 +282,17 @@ module _ (xs : List Float) (m : Float) (p : Plain m) (M : 0 < magUnits m) (len :
       let l = length ts in
       let w = 0 + halfUlp 6 * 1 in
       let lw : l * w ≤ 24 * w = mul-le-mul-right w many in
-      let top : 24 * (2 * U) + 24 * w < 2 ^ 1080 * 1 = lit≤ tt in
+      let top : 24 * (U + 2 ^ 1026) + 24 * w < 2 ^ 1080 * 1 = lit≤ tt in
       let all : 24 * w ≤ 2 ^ 1031 = lit≤ tt in
       let r = sums.near-sum 1 0 zero64 ts 6 (lit≤ tt) (terms ts (squares qs small)) (near-zero 1)
-      (lt-of-le-of-lt (room (total ts) (l * w) (24 * (2 * U)) (24 * w) tot lw) top) in
+      (lt-of-le-of-lt (room (total ts) (l * w) (24 * (U + 2 ^ 1026)) (24 * w) tot lw) top) in
       near-more (2 ^ 1031) (near-parts (total ts) 0 r (plain (total ts))) (le-trans (le-of-eq (zero-add (l * w))) (le-trans lw all))
     where
       many : length (products qs qs) ≤ 24
       many = le-trans (le-of-eq (squares-length qs ∙ quotients-length xs m)) len
 
-      tot : total (products qs qs) ≤ 24 * (2 * U)
-      tot = le-trans (total-le (products qs qs) (squares qs small)) (mul-le-mul-right (2 * U) many)
+      tot : total (products qs qs) ≤ 24 * (U + 2 ^ 1026)
+      tot = le-trans (total-le (products qs qs) (squares qs small)) (mul-le-mul-right (U + 2 ^ 1026) many)
 
       room : (s a b c : ℕ) → s ≤ b → a ≤ c → 0 + 0 + 0 + (s + 0) + a ≤ b + c
       room s a b c h k = omega arith
@@ -297,10 +302,9 @@ module _ (xs : List Float) (m : Float) (p : Plain m) (M : 0 < magUnits m) (len :
 
   sum-is : Sum (dotOf qs qs)
   sum-is =
-      let top : 24 * (2 * U) ≤ 48 * U = lit≤ tt in
       sum-of (dotOf qs qs) (total (products qs qs)) sum-near (total-ge m p M xs e h)
       (le-trans (total-le (products qs qs) (squares qs small))
-      (le-trans (mul-le-mul-right (2 * U) (le-trans (le-of-eq (squares-length qs ∙ quotients-length xs m)) len)) top))
+      (mul-le-mul-right (U + 2 ^ 1026) (le-trans (le-of-eq (squares-length qs ∙ quotients-length xs m)) len)))
 
   sum-pos : 0 < magUnits (dotOf qs qs)
   sum-pos = go (magUnits (dotOf qs qs)) U (2 ^ 1032) (sum-is .low) (lit≤ tt)

@@ -1,5 +1,5 @@
--- How large the scale is that comes of a largest magnitude and a norm: one 15.9th of the largest magnitude at least, once it is 32 units or more.
--- Assumes nothing.
+-- How large the scale is that comes of a largest magnitude and a norm: one 15.9th of the largest magnitude at least, once it is 32 units or more,
+-- and 0.323 of it at most, but for two units. Assumes nothing.
 use mathlib.Core.Path.{_≡_, refl, sym, ap, ap₂, _∙_, subst}
 use mathlib.Core.Bool.{Bool, false}
 use Prim.Native.Nat.{ℕ, _+_, _*_, _^_, _≤_, _<_}
@@ -51,25 +51,28 @@ ratio-is : Constant ratio64 113 115 100
 unfolding fits magUnits
 ratio-is = record { plain = record { fit = tt; fin = tt; sign = refl }; lo = lit≤ tt; hi = lit≤ tt }
 
-root-of-24 : Constant (ofBits binary64 0x4013_988e_1409_212e) 48 49 10
+root-of-24 : Constant (ofBits binary64 0x4013_988e_1409_212e) 4898 4899 1000
 unfolding fits magUnits ofBits
 root-of-24 = record { plain = record { fit = tt; fin = tt; sign = refl }; lo = lit≤ tt; hi = lit≤ tt }
 
-root24-const : Constant root24 48 49 10
-root24-const = subst (λ (x : Float). Constant x 48 49 10) (sym root24-is) root-of-24
+root24-const : Constant root24 4898 4899 1000
+root24-const = subst (λ (x : Float). Constant x 4898 4899 1000) (sym root24-is) root-of-24
 
 limit-le : magUnits limit64 ≤ 2 ^ 2040
 unfolding magUnits
 limit-le = lit≤ tt
 
 -- ---- a fraction a, and what it is rounded to, c, in units of u
-at-least : (a c u : ℕ) → a * 2 ^ 53 ≤ c * 2 ^ 53 + a + 2 ^ 52 * u → 999 * a ≤ 1000 * c + 500 * u
+pub at-least : (a c u : ℕ) → a * 2 ^ 53 ≤ c * 2 ^ 53 + a + 2 ^ 52 * u → 999 * a ≤ 1000 * c + 500 * u
 at-least a c u h = omega arith
 
 at-most : (a c u : ℕ) → c * 2 ^ 53 ≤ a * 2 ^ 53 + a + 2 ^ 52 * u → c ≤ 2 * a + u
 at-most a c u h = omega arith
 
-cancel : (i j k x y u : ℕ) → 0 < u → i * (x * u) ≤ j * (y * u) + k * u → i * x ≤ j * y + k
+at-most-finely : (a c u : ℕ) → c * 2 ^ 53 ≤ a * 2 ^ 53 + a + 2 ^ 52 * u → 10000 * c ≤ 10001 * a + 5001 * u
+at-most-finely a c u h = omega arith
+
+pub cancel : (i j k x y u : ℕ) → 0 < u → i * (x * u) ≤ j * (y * u) + k * u → i * x ≤ j * y + k
 cancel i j k x y u P h =
     le-of-mul-le-mul-right
     (le-trans (le-of-eq (mul-assoc i x u))
@@ -94,6 +97,7 @@ pub record Derived (g : ℕ) (s : Float) : Type 0 where
   pub top : magUnits s ≤ 2 ^ 2060
   pub keeps : 32 ≤ magUnits s → 10 * g ≤ 159 * magUnits s
   pub large : 2 ^ 20 ≤ g → 32 ≤ magUnits s
+  pub under : 1000 * magUnits s ≤ 323 * g + 2000
 
 -- ALPHA * m, then times n, then over the root of 24
 module _ (m n : Float) (p : Plain m) (L : magUnits m ≤ magUnits limit64) (q : Norm n) where
@@ -112,7 +116,13 @@ module _ (m n : Float) (p : Plain m) (L : magUnits m ≤ magUnits limit64) (q : 
   root-ge : U ≤ magUnits root24
   root-ge = go (magUnits root24) U (root24-const .lo)
     where
-      go : (a u : ℕ) → 48 * u ≤ 10 * a → u ≤ a
+      go : (a u : ℕ) → 4898 * u ≤ 1000 * a → u ≤ a
+      go a u h = omega arith
+
+  n-le : magUnits n ≤ 16 * U
+  n-le = go (magUnits n) U (q .high)
+    where
+      go : (a u : ℕ) → 32 * a ≤ 157 * u → a ≤ 16 * u
       go a u h = omega arith
 
   m-le : magUnits m ≤ 2 ^ 2040
@@ -128,7 +138,8 @@ module _ (m n : Float) (p : Plain m) (L : magUnits m ≤ magUnits limit64) (q : 
   first-low =
       cancel 321 1000 500 (magUnits m) (magUnits first) U (pow-pos 1074)
       (go (magUnits m * U) (magUnits alpha64 * magUnits m) (magUnits first * U) U
-      (le-trans (times-low 3217 10000 (magUnits m) (magUnits alpha64) U (alpha-is .lo)) (le-of-eq (ap (λ (z : ℕ). 10000 * z) (mul-comm (magUnits m) (magUnits alpha64)))))
+      (le-trans (times-low 3217 10000 (magUnits m) (magUnits alpha64) U (alpha-is .lo))
+      (le-of-eq (ap (λ (z : ℕ). 10000 * z) (mul-comm (magUnits m) (magUnits alpha64)))))
       (at-least (magUnits alpha64 * magUnits m) (magUnits first * U) U (first-is .lo)))
     where
       go : (mu am c u : ℕ) → 3217 * mu ≤ 10000 * am → 999 * am ≤ 1000 * c + 500 * u → 321 * mu ≤ 1000 * c + 500 * u
@@ -140,14 +151,15 @@ module _ (m n : Float) (p : Plain m) (L : magUnits m ≤ magUnits limit64) (q : 
       le-trans
       (cancel1 2 1 (magUnits first) (magUnits m) U (pow-pos 1074)
       (le-trans (at-most (magUnits alpha64 * magUnits m) (magUnits first * U) U (first-is .hi))
-      (add-le-add (mul-le-mul-left 2 (le-trans (mul-le-mul-right (magUnits m) alpha-le) (le-of-eq (mul-comm U (magUnits m))))) (le-of-eq (sym (one-mul U))))))
+      (add-le-add (mul-le-mul-left 2 (le-trans (mul-le-mul-right (magUnits m) alpha-le) (le-of-eq (mul-comm U (magUnits m)))))
+      (le-of-eq (sym (one-mul U))))))
       (le-trans (add-le-add (mul-le-mul-left 2 m-le) (le-refl 1)) room)
 
   second-is : Close second false (magUnits first * magUnits n) U
   second-is =
       let room : 2 ^ 2042 * (16 * U) < 2 ^ 2097 * U = lit≤ tt in
       subst (λ (s : Bool). Close second s (magUnits first * magUnits n) U) (ap₂ unlike (first-is .sign) (q .plain .sign))
-      (mul-close first n (first-is .fit) (q .plain .fit) (first-is .fin) (q .plain .fin) (lt-of-le-of-lt (mul-le-mul first-high (q .high)) room))
+      (mul-close first n (first-is .fit) (q .plain .fit) (first-is .fin) (q .plain .fin) (lt-of-le-of-lt (mul-le-mul first-high n-le) room))
 
   second-low : 998 * magUnits first ≤ 1000 * magUnits second + 500
   second-low =
@@ -166,7 +178,7 @@ module _ (m n : Float) (p : Plain m) (L : magUnits m ≤ magUnits limit64) (q : 
       (cancel1 32 1 (magUnits second) (magUnits first) U (pow-pos 1074)
       (le-trans (at-most (magUnits first * magUnits n) (magUnits second * U) U (second-is .hi))
       (go (magUnits first * magUnits n) (magUnits first * U) U
-      (le-trans (mul-le-mul-left (magUnits first) (q .high)) (le-of-eq (mul-left-comm (magUnits first) 16 U))))))
+      (le-trans (mul-le-mul-left (magUnits first) n-le) (le-of-eq (mul-left-comm (magUnits first) 16 U))))))
       (le-trans (add-le-add (mul-le-mul-left 32 first-high) (le-refl 1)) room)
     where
       go : (a b u : ℕ) → a ≤ 16 * b → 2 * a + u ≤ 32 * b + 1 * u
@@ -187,10 +199,10 @@ module _ (m n : Float) (p : Plain m) (L : magUnits m ≤ magUnits limit64) (q : 
   scale-low =
       cancel 999 4900 2450 (magUnits second) (magUnits scale) U (pow-pos 1074)
       (go (magUnits second * U) (magUnits scale * magUnits root24) (magUnits scale * U) (magUnits root24) U
-      (times-high 49 10 (magUnits scale) (magUnits root24) U (root24-const .hi)) (root24-const .hi)
+      (times-high 4899 1000 (magUnits scale) (magUnits root24) U (root24-const .hi)) (root24-const .hi)
       (at-least (magUnits second * U) (magUnits scale * magUnits root24) (magUnits root24) (scale-is .lo)))
     where
-      go : (a sr su r u : ℕ) → 10 * sr ≤ 49 * su → 10 * r ≤ 49 * u → 999 * a ≤ 1000 * sr + 500 * r → 999 * a ≤ 4900 * su + 2450 * u
+      go : (a sr su r u : ℕ) → 1000 * sr ≤ 4899 * su → 1000 * r ≤ 4899 * u → 999 * a ≤ 1000 * sr + 500 * r → 999 * a ≤ 4900 * su + 2450 * u
       go a sr su r u h k l = omega arith
 
   scale-high : magUnits scale ≤ 2 ^ 2050
@@ -202,6 +214,37 @@ module _ (m n : Float) (p : Plain m) (L : magUnits m ≤ magUnits limit64) (q : 
       (add-le-add (mul-le-mul-left 2 (mul-le-mul-left (magUnits second) root-ge)) (le-of-eq (sym (one-mul (magUnits root24)))))))
       (le-trans (add-le-add (mul-le-mul-left 2 second-high) (le-refl 1)) room)
 
+  -- the same from above
+  first-up : 10000 * magUnits first ≤ 3220 * magUnits m + 5001
+  first-up =
+      cancel 10000 3220 5001 (magUnits first) (magUnits m) U (pow-pos 1074)
+      (go (magUnits m * U) (magUnits alpha64 * magUnits m) (magUnits first * U) U
+      (le-trans (le-of-eq (ap (λ (z : ℕ). 10000 * z) (mul-comm (magUnits alpha64) (magUnits m))))
+      (times-high 3219 10000 (magUnits m) (magUnits alpha64) U (alpha-is .hi)))
+      (at-most-finely (magUnits alpha64 * magUnits m) (magUnits first * U) U (first-is .hi)))
+    where
+      go : (mu am c u : ℕ) → 10000 * am ≤ 3219 * mu → 10000 * c ≤ 10001 * am + 5001 * u → 10000 * c ≤ 3220 * mu + 5001 * u
+      go mu am c u h k = omega arith
+
+  second-up : 10000 * magUnits second ≤ 49070 * magUnits first + 5001
+  second-up =
+      cancel 10000 49070 5001 (magUnits second) (magUnits first) U (pow-pos 1074)
+      (go (magUnits first * U) (magUnits first * magUnits n) (magUnits second * U) U (times-high 157 32 (magUnits first) (magUnits n) U (q .high))
+      (at-most-finely (magUnits first * magUnits n) (magUnits second * U) U (second-is .hi)))
+    where
+      go : (mu am c u : ℕ) → 32 * am ≤ 157 * mu → 10000 * c ≤ 10001 * am + 5001 * u → 10000 * c ≤ 49070 * mu + 5001 * u
+      go mu am c u h k = omega arith
+
+  scale-up : 10000 * magUnits scale ≤ 2043 * magUnits second + 5001
+  scale-up =
+      cancel 10000 2043 5001 (magUnits scale) (magUnits second) (magUnits root24) (lt-of-lt-of-le (pow-pos 1074) root-ge)
+      (go (magUnits second * U) (magUnits second * magUnits root24) (magUnits scale * magUnits root24) (magUnits root24)
+      (times-low 4898 1000 (magUnits second) (magUnits root24) U (root24-const .lo))
+      (at-most-finely (magUnits second * U) (magUnits scale * magUnits root24) (magUnits root24) (scale-is .hi)))
+    where
+      go : (a pr sr r : ℕ) → 4898 * a ≤ 1000 * pr → 10000 * sr ≤ 10001 * a + 5001 * r → 10000 * sr ≤ 2043 * pr + 5001 * r
+      go a pr sr r h k = omega arith
+
   pub derived : Derived (magUnits m) (scaleWith m n)
   derived =
       let room : 2 ^ 2050 ≤ 2 ^ 2060 = lit≤ tt in
@@ -210,6 +253,7 @@ module _ (m n : Float) (p : Plain m) (L : magUnits m ≤ magUnits limit64) (q : 
         top = le-trans scale-high room;
         keeps = keeps (magUnits m) (magUnits first) (magUnits second) (magUnits scale) first-low second-low scale-low;
         large = large (magUnits m) (magUnits first) (magUnits second) (magUnits scale) first-low second-low scale-low;
+        under = under (magUnits m) (magUnits first) (magUnits second) (magUnits scale) first-up second-up scale-up;
       }
     where
       keeps : (m a b s : ℕ) → 321 * m ≤ 1000 * a + 500 → 998 * a ≤ 1000 * b + 500 → 999 * b ≤ 4900 * s + 2450 → 32 ≤ s → 10 * m ≤ 159 * s
@@ -217,6 +261,9 @@ module _ (m n : Float) (p : Plain m) (L : magUnits m ≤ magUnits limit64) (q : 
 
       large : (m a b s : ℕ) → 321 * m ≤ 1000 * a + 500 → 998 * a ≤ 1000 * b + 500 → 999 * b ≤ 4900 * s + 2450 → 2 ^ 20 ≤ m → 32 ≤ s
       large m a b s x y z h = omega arith
+
+      under : (m a b s : ℕ) → 10000 * a ≤ 3220 * m + 5001 → 10000 * b ≤ 49070 * a + 5001 → 10000 * s ≤ 2043 * b + 5001 → 1000 * s ≤ 323 * m + 2000
+      under m a b s x y z = omega arith
 
 -- ---- the second scale is no smaller
 pub record Kept (g : ℕ) (s : Float) : Type 0 where

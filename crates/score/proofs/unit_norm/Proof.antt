@@ -20,7 +20,9 @@ root-requires c κs = search needs
 
 returns : tie.Need-returns
 unfolding unitNorm
-returns c = let q = c .before .before .quotients .ensures in ap (λ (r : Rooted). r .root) (c .root .ensures) ∙ ap (λ (d : Float). rooted d .root) (c .before .dot .ensures ∙ ap₂ dotOf q q)
+returns c =
+    let q = c .before .before .quotients .ensures in
+    ap (λ (r : Rooted). r .root) (c .root .ensures) ∙ ap (λ (d : Float). rooted d .root) (c .before .dot .ensures ∙ ap₂ dotOf q q)
 
 pub unit-norm-spec : {M : Type 1} → statement M
 unit-norm-spec = tie.close (tie.spec quotients-requires dot-requires root-requires returns)
