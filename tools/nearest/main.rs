@@ -1,6 +1,6 @@
 //! Targets near the decision boundary of the Leech lattice, with the nearest lattice point of each, found exactly.
 //!
-//!   nearest SEED COUNT REQUESTS POINTS
+//!   nearest_points SEED COUNT REQUESTS POINTS
 //!
 //! writes COUNT requests `scale N S X0 .. X23` (N is the setting of the shrinks, a double the 16 hex digits of its bits) and, line by line,
 //! the point that each must be answered with. Build: rustc -O tools/nearest/main.rs -o target/nearest_points. The script compare.sh beside this

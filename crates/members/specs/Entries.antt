@@ -1,12 +1,11 @@
 -- The entries of the join: before the last join every one has a finite value, and an exact one holds a member.
-use mathlib.Core.Path.{_≡_, refl, sym, ap, _∙_, subst}
+use mathlib.Core.Path.{_≡_, refl, sym, _∙_, subst}
 use mathlib.Core.Logic.{_⊎_, inl, inr}
 use mathlib.Core.Bool.{Bool, true, false, cond, _&&_}
 use mathlib.Core.List.{List}
-use Prim.Native.Nat.{ℕ, _+_, _*_, _^_, _≤_, _<_}
-use native.Mathlib.Nat.{le-refl, zero-lt-suc, lt-of-lt-of-le}
-use native.Mathlib.Omega.{arith}
-use lib.Dec.{T, ltb, eqb, ltb→lt, lit≤}
+use Prim.Native.Nat.{ℕ, _^_, _≤_, _<_}
+use native.Mathlib.Nat.{le-refl, lt-of-lt-of-le}
+use lib.Dec.{T, ltb, ltb→lt, lit≤}
 use lib.ListN.{getD}
 use lib.Ieee.{Float, nan, lt}
 use Rattle.laws.specs.Tests.{upto, below, and-left, and-right, is-true}
@@ -28,7 +27,7 @@ use Rattle.nearest.specs.Entries.{EndByte}
 use Rattle.nearest.specs.Premises.{val-small, class-cost}
 use Rattle.nearest.specs.TableFacts.{tables-more}
 use Rattle.members.specs.Sizes.{Below, wider, Target, dist-below}
-use Rattle.members.specs.Candidates.{Member, Good, Far, base-below, base-member, solve-good}
+use Rattle.members.specs.Candidates.{Good, Far, base-below, base-member, solve-good}
 use Rattle.members.specs.Middle.{always-met}
 
 -- an exact entry that holds a member of parity p and class r, within the bound b, whose byte is one of those asked for
@@ -53,7 +52,8 @@ module _ (Byte : ℕ → Type 0) (p r : ℕ) (b : Closed) where
   better-held : (e : Entry) (x : Best) (c : ℕ) → Byte c → Held Byte p r b e → Sure p c r b x → Held Byte p r b (better e x c)
   better-held e x c h f s = go (x .met) (lt (x .d) (e .value)) s
     where
-      go : (m l : Bool) → (m ≡ true → Good p c r b (x .key) (x .d)) → Held Byte p r b (cond (m && l) (record { value = x .d; exact = true; byte = c; key = x .key }) e)
+      go : (m l : Bool) → (m ≡ true → Good p c r b (x .key) (x .d))
+          → Held Byte p r b (cond (m && l) (record { value = x .d; exact = true; byte = c; key = x .key }) e)
       go true true s = record { exact = refl; byte = h; good = s refl }
       go true false s = f
       go false l s = f
@@ -70,7 +70,8 @@ module _ (Byte : ℕ → Type 0) (p r : ℕ) (b : Closed) where
       least true = inr d
       least false = f .lb
 
-      go : (m : Bool) → Begun (cond {A = Start} m (record { ent = better (s .ent) x c; lb = s .lb; loose = s .loose }) (record { ent = s .ent; lb = cond (lt (x .d) (s .lb)) (x .d) (s .lb); loose = true }))
+      go : (m : Bool) → Begun (cond {A = Start} m (record { ent = better (s .ent) x c; lb = s .lb; loose = s .loose })
+          (record { ent = s .ent; lb = cond (lt (x .d) (s .lb)) (x .d) (s .lb); loose = true }))
       go true = record { ent = better-held (s .ent) x c h (f .ent) q; lb = f .lb }
       go false = record { ent = f .ent; lb = least (lt (x .d) (s .lb)) }
 
@@ -81,10 +82,12 @@ module _ (Byte : ℕ → Type 0) (p r : ℕ) (b : Closed) where
       no-way q = subst T (sym q) tt
 
       bound : (s .lb ≡ infinity) ⊎ Below Far (s .lb) → lt (s .lb) (s .ent .value) ≡ true → Below Far (s .lb)
-      bound (inl e) q = absurd (no-way (sym (lt-inf (s .ent .value) (f .ent .good .below .fin)) ∙ subst (λ (z : Float). lt z (s .ent .value) ≡ true) e q))
+      bound (inl e) q = absurd (no-way
+          (sym (lt-inf (s .ent .value) (f .ent .good .below .fin)) ∙ subst (λ (z : Float). lt z (s .ent .value) ≡ true) e q))
       bound (inr d) q = d
 
-      go : (m l : Bool) → lt (s .lb) (s .ent .value) ≡ l → Fine Byte p r b (cond (m && l) (record { value = s .lb; exact = false; byte = s .ent .byte; key = s .ent .key }) (s .ent))
+      go : (m l : Bool) → lt (s .lb) (s .ent .value) ≡ l
+          → Fine Byte p r b (cond (m && l) (record { value = s .lb; exact = false; byte = s .ent .byte; key = s .ent .key }) (s .ent))
       go true true q = record { below = bound (f .lb) q; held = λ w. absurd (no-way w) }
       go true false q = held-fine (f .ent)
       go false l q = held-fine (f .ent)
@@ -126,9 +129,11 @@ fallback-held ts T0 kind p r st K0 P0 R0 S0 =
           at = λ j h. val-is (oAt p c j) (rankAt key j) (o-lt p c j P0) (tables-more .fb-rank kind p r st j K0 P0 R0 S0 h);
           class = tables-more .fb-class kind p r st K0 P0 R0 S0;
           key-lt = ltb→lt key (2 ^ 32) (and-left (ltb key (2 ^ 32)) (holds (classOf tables r) (sumTo (λ j. sq (rankAt key j)) 8) key) q);
-          within = is-true (holds (classOf tables r) (sumTo (λ j. sq (rankAt key j)) 8) key) (and-right (ltb key (2 ^ 32)) (holds (classOf tables r) (sumTo (λ j. sq (rankAt key j)) 8) key) q);
+          within = is-true (holds (classOf tables r) (sumTo (λ j. sq (rankAt key j)) 8) key)
+              (and-right (ltb key (2 ^ 32)) (holds (classOf tables r) (sumTo (λ j. sq (rankAt key j)) 8) key) q);
         };
-        below = wider Far (lit≤ tt) (dist-below (sectionAt p c key) ts (λ j h. lt-of-lt-of-le (val-small (oAt p c j) (rankAt key j) (o-lt p c j P0) (nib-lt key j)) (lit≤ tt)) T0 8 (le-refl 8));
+        below = wider Far (lit≤ tt) (dist-below (sectionAt p c key) ts
+            (λ j h. lt-of-lt-of-le (val-small (oAt p c j) (rankAt key j) (o-lt p c j P0) (nib-lt key j)) (lit≤ tt)) T0 8 (le-refl 8));
       };
     }
 
@@ -170,7 +175,8 @@ module _ (u : Rule) (U0 : RuleOk u) (ts : List Float) (T0 : (j : ℕ) → j < 8 
     end-start =
         settle-fine Byte p r b _
         (with-begun Byte p r b _ _ (endByte tables kind st 1) byte1
-        (with-begun Byte p r b _ _ (endByte tables kind st 0) byte0 (record { ent = first; lb = inl refl }) (based (endByte tables kind st 0)) (base-below ts p (endByte tables kind st 0) 0 P0 T0 r))
+        (with-begun Byte p r b _ _ (endByte tables kind st 0) byte0 (record { ent = first; lb = inl refl })
+        (based (endByte tables kind st 0)) (base-below ts p (endByte tables kind st 0) 0 P0 T0 r))
         (based (endByte tables kind st 1)) (base-below ts p (endByte tables kind st 1) 0 P0 T0 r))
 
   -- ---- the middle
@@ -182,14 +188,17 @@ module _ (u : Rule) (U0 : RuleOk u) (ts : List Float) (T0 : (j : ℕ) → j < 8 
     Own x = x ≡ c
 
     mid-of : (x : Best) → Sure p c d m x → x .met ≡ true → Held Own p d m (midOf x c)
-    mid-of x s q = subst (λ (t : Bool). Held Own p d m (cond t (record { value = x .d; exact = true; byte = c; key = x .key }) (record { value = infinity; exact = true; byte = 0; key = 0 }))) (sym q)
+    mid-of x s q = subst (λ (t : Bool).
+        Held Own p d m (cond t (record { value = x .d; exact = true; byte = c; key = x .key })
+        (record { value = infinity; exact = true; byte = 0; key = 0 }))) (sym q)
         (record { exact = refl; byte = refl; good = s q })
 
     pub mid-held : Held Own p d m (midResolve tables u ts p c d)
     unfolding midResolve
     mid-held = go (solve ts p c d m (u .mids) .met) refl
       where
-        go : (t : Bool) → solve ts p c d m (u .mids) .met ≡ t → Held Own p d m (cond t (midOf (solve ts p c d m (u .mids)) c) (midOf (solve ts p c d m 8) c))
+        go : (t : Bool) → solve ts p c d m (u .mids) .met ≡ t
+            → Held Own p d m (cond t (midOf (solve ts p c d m (u .mids)) c) (midOf (solve ts p c d m 8) c))
         go true q = mid-of (solve ts p c d m (u .mids)) (solve-good ts p c P0 T0 d D0 m (tables-more .costM) (u .mids) (U0 .mids)) q
         go false q = mid-of (solve ts p c d m 8) (solve-good ts p c P0 T0 d D0 m (tables-more .costM) 8 (le-refl 8)) (always-met ts p c P0 T0 d)
 
@@ -197,5 +206,10 @@ module _ (u : Rule) (U0 : RuleOk u) (ts : List Float) (T0 : (j : ℕ) → j < 8 
     unfolding midStart
     mid-start = record {
       below = base-below ts p c 0 P0 T0 d;
-      held = λ q. record { exact = q; byte = refl; good = record { is = base-member ts p c 0 P0 T0 d D0 m (tables-more .costM) q; below = base-below ts p c 0 P0 T0 d } };
+      held = λ q. record {
+        exact = q;
+        byte = refl;
+        good =
+            record { is = base-member ts p c 0 P0 T0 d D0 m (tables-more .costM) q; below = base-below ts p c 0 P0 T0 d };
+      };
     }

@@ -1,4 +1,5 @@
 -- what is accepted, and the theorems
+pub mod Accepted
 pub mod Members
 -- the proof: doubles of bounded size; candidates and what the rule meets
 pub mod Sizes

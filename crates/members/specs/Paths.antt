@@ -5,10 +5,10 @@ use mathlib.Core.Logic.{_⊎_, inl, inr}
 use mathlib.Core.Bool.{Bool, true, false, cond, _&&_}
 use mathlib.Core.List.{List}
 use Prim.Native.Nat.{ℕ, zero, suc, _+_, _*_, _/_, _%_, _≤_, _<_}
-use native.Mathlib.Nat.{le-refl, le-trans, le-of-eq, mod-lt, zero-lt-suc, mul-le-mul-right}
+use native.Mathlib.Nat.{le-refl, le-trans, mod-lt, zero-lt-suc, mul-le-mul-right}
 use native.Mathlib.Omega.{arith}
 use lib.Dec.{T, lit≤}
-use lib.ListN.{getD, set, length}
+use lib.ListN.{getD}
 use lib.Seq.{getD-set-same}
 use lib.Ieee.{Float, nan, binary64, add, lt}
 use lib.Ieee.Scale.{finite}
@@ -18,18 +18,17 @@ use Rattle.float.specs.Value.{U, magUnits, posUnits, negUnits}
 use Rattle.float.specs.Exact.{mag-parts}
 use Rattle.search.specs.declared.Entry.{Entry}
 use Rattle.search.specs.declared.Way.{Way}
-use Rattle.search.specs.declared.Winner.{Winner}
 use Rattle.search.specs.declared.Bounds.{Bounds}
 use Rattle.search.specs.declared.Closed.{Closed}
 use Rattle.search.specs.Solve.{infinity}
 use Rattle.search.specs.Tables.{tables, classOf}
 use Rattle.search.specs.Entries.{Rule, endStart, midStart}
 use Rattle.search.specs.Join.{Sides, noEntry, entAt, midAt, lastAt, costAt, wayAt, joinTo, allExact}
-use Rattle.search.specs.Parity.{Targets, Seed, closed, starts, solved1, solved2, solved3, seeded, lower, lowered, seedBy, seedTo, seedOf, boundsTo, closing, lastSides, winnerOf, parity}
+use Rattle.search.specs.Parity.{Targets, Seed, closed, starts, solved1, solved2, solved3, seeded, lower, lowered, seedBy, seedTo, seedOf, boundsTo, closing, lastSides, parity}
 use Rattle.nearest.specs.Statement.{RuleOk}
 use Rattle.nearest.specs.Under.{Num, Plain, Under, inf-lt, add-inf-l, add-inf-r}
 use Rattle.nearest.specs.Entries.{EndByte, fixed-keeps, set-either}
-use Rattle.nearest.specs.Pass.{MidByte, seeds-keep}
+use Rattle.nearest.specs.Pass.{MidByte, half, small, bit, seeds-keep}
 use Rattle.nearest.specs.Winner.{mid-at-lt, last-at-lt}
 use Rattle.nearest.specs.Join.{Seen, join-seen, join-under}
 use Rattle.nearest.specs.TableFacts.{tables-good}
@@ -77,7 +76,13 @@ sum-num x y z a b c = go (sum-case x y z a b c)
     go (inr q) = inr (plain (sum-below (q .0) (q .1) (q .2)))
 
 below-under : {A : ℕ} {x : Float} (B : ℕ) → A * U ≤ B → Below A x → Under x B
-below-under {A} {x} B h a = record { fit = a .fit; fin = a .fin; below = go (posUnits x * U) (negUnits x * U) B (le-trans (mul-le-mul-right U (le-trans (part (magUnits x) (posUnits x) (negUnits x) (mag-parts x)) (a .low))) h) }
+below-under {A} {x} B h a = record {
+  fit = a .fit;
+  fin = a .fin;
+  below =
+      go (posUnits x * U) (negUnits x * U) B
+      (le-trans (mul-le-mul-right U (le-trans (part (magUnits x) (posUnits x) (negUnits x) (mag-parts x)) (a .low))) h);
+}
   where
     part : (m p n : ℕ) → m ≡ p + n → p ≤ m
     part m p n e = omega arith
@@ -137,9 +142,12 @@ module _ (p : ℕ) (s : Sides) (L : AllLast p s) where
 
   way-through : (i n : ℕ) → i < 128 → n < 32 → finite (costAt tables p s i n) ≡ true
       → Through p (entAt (s .e1) i) (entAt (s .e2) (midAt tables i n)) (entAt (s .e3) (lastAt tables p i n))
-  way-through i n h k f = go (sum-case _ _ _ (vals .one i h) (vals .two (midAt tables i n) (m-lt i n k)) (vals .three (lastAt tables p i n) (n-lt p i n k)))
+  way-through i n h k f = go (sum-case _ _ _ (vals .one i h) (vals .two (midAt tables i n) (m-lt i n k))
+      (vals .three (lastAt tables p i n) (n-lt p i n k)))
     where
-      go : (costAt tables p s i n ≡ infinity) ⊎ (Below Far (entAt (s .e1) i .value) × Below Far (entAt (s .e2) (midAt tables i n) .value) × Below Far (entAt (s .e3) (lastAt tables p i n) .value))
+      go : (costAt tables p s i n ≡ infinity)
+          ⊎ (Below Far (entAt (s .e1) i .value) × Below Far (entAt (s .e2) (midAt tables i n) .value)
+          × Below Far (entAt (s .e3) (lastAt tables p i n) .value))
           → Through p (entAt (s .e1) i) (entAt (s .e2) (midAt tables i n)) (entAt (s .e3) (lastAt tables p i n))
       go (inl e) = absurd (no-way (sym (ap finite e) ∙ f))
       go (inr q) = record {
@@ -157,31 +165,29 @@ module _ (p : ℕ) (s : Sides) (L : AllLast p s) where
       → Through p (entAt (s .e1) (joinTo tables p s 128 .i1)) (entAt (s .e2) (joinTo tables p s 128 .i2)) (entAt (s .e3) (joinTo tables p s 128 .i3))
   join-through f = go (join-seen tables p s (way-num p s vals) 128 (le-refl 128))
     where
-      go : Seen tables p s (joinTo tables p s 128) → Through p (entAt (s .e1) (joinTo tables p s 128 .i1)) (entAt (s .e2) (joinTo tables p s 128 .i2)) (entAt (s .e3) (joinTo tables p s 128 .i3))
+      go : Seen tables p s (joinTo tables p s 128)
+          → Through p (entAt (s .e1) (joinTo tables p s 128 .i1)) (entAt (s .e2) (joinTo tables p s 128 .i2))
+          (entAt (s .e3) (joinTo tables p s 128 .i3))
       go (inl e) = absurd (no-way (sym (ap finite e) ∙ f))
-      go (inr q) = subst (λ (w : Way). Through p (entAt (s .e1) (w .i1)) (entAt (s .e2) (w .i2)) (entAt (s .e3) (w .i3))) (sym (q .4)) (way-through (q .0) (q .1) (q .2) (q .3) (sym (ap (λ (w : Way). finite (w .cost)) (q .4)) ∙ f))
+      go (inr q) = subst (λ (w : Way). Through p (entAt (s .e1) (w .i1)) (entAt (s .e2) (w .i2)) (entAt (s .e3) (w .i3))) (sym (q .4))
+          (way-through (q .0) (q .1) (q .2) (q .3) (sym (ap (λ (w : Way). finite (w .cost)) (q .4)) ∙ f))
 
   -- a path of three finite values leaves the join finite
-  pub join-finite : (i n : ℕ) → i < 128 → n < 32 → Below Far (entAt (s .e1) i .value) → Below Far (entAt (s .e2) (midAt tables i n) .value) → Below Far (entAt (s .e3) (lastAt tables p i n) .value)
+  pub join-finite : (i n : ℕ) → i < 128 → n < 32 → Below Far (entAt (s .e1) i .value) → Below Far (entAt (s .e2) (midAt tables i n) .value)
+      → Below Far (entAt (s .e3) (lastAt tables p i n) .value)
       → finite (joinTo tables p s 128 .cost) ≡ true
   join-finite i n h k a b c =
       is-true (finite (joinTo tables p s 128 .cost))
-      (join-under tables p s (way-num p s vals) i n k (below-under (Far3 * U) (lit≤ tt) a) (below-under (Far3 * U) (le-refl (Far3 * U)) (sum-below a b c)) 128 (le-refl 128) h .fin)
+      (join-under tables p s (way-num p s vals) i n k (below-under (Far3 * U) (lit≤ tt) a)
+      (below-under (Far3 * U) (le-refl (Far3 * U)) (sum-below a b c)) 128 (le-refl 128) h .fin)
 
 -- ---- one parity, at targets up to a million
-half : {i : ℕ} → i < 128 → i / 64 < 2
-half h = omega arith
-
-small : (i : ℕ) → i % 64 < 64
-small i = mod-lt i (zero-lt-suc 63)
-
-bit : (i : ℕ) → i % 2 < 2
-bit i = mod-lt i (zero-lt-suc 1)
-
-closed-last : (Byte : ℕ → Type 0) (p r : ℕ) (b : Closed) (e : Entry) (under : Bool) (new : Entry) → Fine Byte p r b e → Held Byte p r b new → Last Byte p r b (closed e under new)
+closed-last : (Byte : ℕ → Type 0) (p r : ℕ) (b : Closed) (e : Entry) (under : Bool) (new : Entry) → Fine Byte p r b e → Held Byte p r b new
+    → Last Byte p r b (closed e under new)
 closed-last Byte p r b e under new f h = go (e .exact) (f .held)
   where
-    go : (m : Bool) → (m ≡ true → Held Byte p r b e) → Last Byte p r b (cond m e (cond under new (record { value = infinity; exact = true; byte = 0; key = 0 })))
+    go : (m : Bool) → (m ≡ true → Held Byte p r b e)
+        → Last Byte p r b (cond m e (cond under new (record { value = infinity; exact = true; byte = 0; key = 0 })))
     go true k = inr (k refl)
     go false k = at under
       where
@@ -193,15 +199,19 @@ closed-last Byte p r b e under new f h = go (e .exact) (f .held)
 abbrev Stays : Entry → Bool → Type 0
 Stays e under = (e .exact ≡ true) ⊎ (under ≡ true)
 
-closed-below : (e : Entry) (under : Bool) (new : Entry) → Below Far (e .value) → Below Far (new .value) → Stays e under → Below Far (closed e under new .value)
+closed-below : (e : Entry) (under : Bool) (new : Entry) → Below Far (e .value) → Below Far (new .value) → Stays e under
+    → Below Far (closed e under new .value)
 closed-below e under new a b k = go (e .exact) refl k
   where
-    go : (m : Bool) → e .exact ≡ m → (e .exact ≡ true) ⊎ (under ≡ true) → Below Far ((cond m e (cond under new (record { value = infinity; exact = true; byte = 0; key = 0 }))) .value)
+    go : (m : Bool) → e .exact ≡ m → (e .exact ≡ true) ⊎ (under ≡ true)
+        → Below Far ((cond m e (cond under new (record { value = infinity; exact = true; byte = 0; key = 0 }))) .value)
     go true q k = a
     go false q (inl w) = absurd (no-way (sym q ∙ w))
-    go false q (inr w) = subst (λ (m : Bool). Below Far ((cond m new (record { value = infinity; exact = true; byte = 0; key = 0 })) .value)) (sym w) b
+    go false q (inr w) = subst (λ (m : Bool).
+        Below Far ((cond m new (record { value = infinity; exact = true; byte = 0; key = 0 })) .value)) (sym w) b
 
-module _ (u : Rule) (U0 : RuleOk u) (t : Targets) (T1 : (j : ℕ) → j < 8 → Target (getD (t .t1) j nan)) (T2 : (j : ℕ) → j < 8 → Target (getD (t .t2) j nan)) (T3 : (j : ℕ) → j < 8 → Target (getD (t .t3) j nan)) (p : ℕ) (P0 : p < 2) where
+module _ (u : Rule) (U0 : RuleOk u) (t : Targets) (T1 : (j : ℕ) → j < 8 → Target (getD (t .t1) j nan))
+    (T2 : (j : ℕ) → j < 8 → Target (getD (t .t2) j nan)) (T3 : (j : ℕ) → j < 8 → Target (getD (t .t3) j nan)) (p : ℕ) (P0 : p < 2) where
   new1 : (i : ℕ) → i < 128 → Held (EndByte tables 0 (i % 64)) p (i / 64) (classOf tables (i / 64)) (solved1 tables u (t .t1) p i)
   new1 i h = end-held u U0 (t .t1) T1 p P0 0 (i / 64) (i % 64) (lit≤ tt) (half h) (small i)
 
@@ -214,19 +224,31 @@ module _ (u : Rule) (U0 : RuleOk u) (t : Targets) (T1 : (j : ℕ) → j < 8 → 
   starts-fine : AllFine p (starts tables t p)
   unfolding starts
   starts-fine = record {
-    one = λ i h. subst (Fine (EndByte tables 0 (i % 64)) p (i / 64) (classOf tables (i / 64))) (sym (tab-at Entry noEntry (λ i. endStart tables (t .t1) 0 p (i / 64) (i % 64)) 128 i h)) (end-start u U0 (t .t1) T1 p P0 0 (i / 64) (i % 64) (lit≤ tt) (half h) (small i));
-    two = λ i h. subst (Fine (MidByte tables i) p (i % 2) (tables .mixed)) (sym (tab-at Entry noEntry (λ i. midStart tables (t .t2) p (getD (tables .sets) (i / 2) 0) (i % 2)) 256 i h)) (mid-start u U0 (t .t2) T2 p P0 (getD (tables .sets) (i / 2) 0) (i % 2) (bit i));
-    three = λ i h. subst (Fine (EndByte tables 1 (i % 64)) p (i / 64) (classOf tables (i / 64))) (sym (tab-at Entry noEntry (λ i. endStart tables (t .t3) 1 p (i / 64) (i % 64)) 128 i h)) (end-start u U0 (t .t3) T3 p P0 1 (i / 64) (i % 64) (lit≤ tt) (half h) (small i));
+    one = λ i h. subst (Fine (EndByte tables 0 (i % 64)) p (i / 64) (classOf tables (i / 64)))
+        (sym (tab-at Entry noEntry (λ i. endStart tables (t .t1) 0 p (i / 64) (i % 64)) 128 i h))
+        (end-start u U0 (t .t1) T1 p P0 0 (i / 64) (i % 64) (lit≤ tt) (half h) (small i));
+    two = λ i h. subst (Fine (MidByte tables i) p (i % 2) (tables .mixed))
+        (sym (tab-at Entry noEntry (λ i. midStart tables (t .t2) p (getD (tables .sets) (i / 2) 0) (i % 2)) 256 i h))
+        (mid-start u U0 (t .t2) T2 p P0 (getD (tables .sets) (i / 2) 0) (i % 2) (bit i));
+    three = λ i h. subst (Fine (EndByte tables 1 (i % 64)) p (i / 64) (classOf tables (i / 64)))
+        (sym (tab-at Entry noEntry (λ i. endStart tables (t .t3) 1 p (i / 64) (i % 64)) 128 i h))
+        (end-start u U0 (t .t3) T3 p P0 1 (i / 64) (i % 64) (lit≤ tt) (half h) (small i));
   }
 
   seeded-fine : (s : Sides) (w : Way) → AllFine p s → AllFine p (seeded tables u t p s w)
   seeded-fine s w a = record {
-    one = λ j. fixed-keeps (λ j e. j < 128 → Fine (EndByte tables 0 (j % 64)) p (j / 64) (classOf tables (j / 64)) e) (s .e1) (w .i1) (solved1 tables u (t .t1) p (w .i1)) j
-        (λ e h. subst (λ (i : ℕ). Fine (EndByte tables 0 (j % 64)) p (j / 64) (classOf tables (j / 64)) (solved1 tables u (t .t1) p i)) (sym e) (held-fine (new1 j h))) (a .one j);
-    two = λ j. fixed-keeps (λ j e. j < 256 → Fine (MidByte tables j) p (j % 2) (tables .mixed) e) (s .e2) (w .i2) (solved2 tables u (t .t2) p (w .i2)) j
-        (λ e h. subst (λ (i : ℕ). Fine (MidByte tables j) p (j % 2) (tables .mixed) (solved2 tables u (t .t2) p i)) (sym e) (held-fine (new2 j h))) (a .two j);
-    three = λ j. fixed-keeps (λ j e. j < 128 → Fine (EndByte tables 1 (j % 64)) p (j / 64) (classOf tables (j / 64)) e) (s .e3) (w .i3) (solved3 tables u (t .t3) p (w .i3)) j
-        (λ e h. subst (λ (i : ℕ). Fine (EndByte tables 1 (j % 64)) p (j / 64) (classOf tables (j / 64)) (solved3 tables u (t .t3) p i)) (sym e) (held-fine (new3 j h))) (a .three j);
+    one = λ j. fixed-keeps (λ j e. j < 128 → Fine (EndByte tables 0 (j % 64)) p (j / 64) (classOf tables (j / 64)) e) (s .e1) (w .i1)
+        (solved1 tables u (t .t1) p (w .i1)) j
+        (λ e h. subst (λ (i : ℕ). Fine (EndByte tables 0 (j % 64)) p (j / 64) (classOf tables (j / 64)) (solved1 tables u (t .t1) p i))
+        (sym e) (held-fine (new1 j h))) (a .one j);
+    two = λ j. fixed-keeps (λ j e. j < 256 → Fine (MidByte tables j) p (j % 2) (tables .mixed) e) (s .e2) (w .i2)
+        (solved2 tables u (t .t2) p (w .i2)) j
+        (λ e h. subst (λ (i : ℕ). Fine (MidByte tables j) p (j % 2) (tables .mixed) (solved2 tables u (t .t2) p i)) (sym e)
+        (held-fine (new2 j h))) (a .two j);
+    three = λ j. fixed-keeps (λ j e. j < 128 → Fine (EndByte tables 1 (j % 64)) p (j / 64) (classOf tables (j / 64)) e) (s .e3) (w .i3)
+        (solved3 tables u (t .t3) p (w .i3)) j
+        (λ e h. subst (λ (i : ℕ). Fine (EndByte tables 1 (j % 64)) p (j / 64) (classOf tables (j / 64)) (solved3 tables u (t .t3) p i))
+        (sym e) (held-fine (new3 j h))) (a .three j);
   }
 
   seeds-fine : (u0 : Float) (n : ℕ) → AllFine p (seedTo tables u t p (record { sides = starts tables t p; u = u0; done = false }) n .sides)
@@ -235,9 +257,15 @@ module _ (u : Rule) (U0 : RuleOk u) (t : Targets) (T1 : (j : ℕ) → j < 8 → 
   closing-last : (s : Sides) (b : Bounds) → AllFine p s → AllLast p (closing tables u t p s b)
   unfolding closing
   closing-last s b a = record {
-    one = λ i h. subst (Last (EndByte tables 0 (i % 64)) p (i / 64) (classOf tables (i / 64))) (sym (tab-at Entry noEntry (λ i. closed (entAt (s .e1) i) (lt (getD (b .b1) i nan) (b .u)) (solved1 tables u (t .t1) p i)) 128 i h)) (closed-last _ p _ _ (entAt (s .e1) i) (lt (getD (b .b1) i nan) (b .u)) (solved1 tables u (t .t1) p i) (a .one i h) (new1 i h));
-    two = λ i h. subst (Last (MidByte tables i) p (i % 2) (tables .mixed)) (sym (tab-at Entry noEntry (λ i. closed (entAt (s .e2) i) (lt (getD (b .b2) i nan) (b .u)) (solved2 tables u (t .t2) p i)) 256 i h)) (closed-last _ p _ _ (entAt (s .e2) i) (lt (getD (b .b2) i nan) (b .u)) (solved2 tables u (t .t2) p i) (a .two i h) (new2 i h));
-    three = λ i h. subst (Last (EndByte tables 1 (i % 64)) p (i / 64) (classOf tables (i / 64))) (sym (tab-at Entry noEntry (λ i. closed (entAt (s .e3) i) (lt (getD (b .b3) i nan) (b .u)) (solved3 tables u (t .t3) p i)) 128 i h)) (closed-last _ p _ _ (entAt (s .e3) i) (lt (getD (b .b3) i nan) (b .u)) (solved3 tables u (t .t3) p i) (a .three i h) (new3 i h));
+    one = λ i h. subst (Last (EndByte tables 0 (i % 64)) p (i / 64) (classOf tables (i / 64)))
+        (sym (tab-at Entry noEntry (λ i. closed (entAt (s .e1) i) (lt (getD (b .b1) i nan) (b .u)) (solved1 tables u (t .t1) p i)) 128 i h))
+        (closed-last _ p _ _ (entAt (s .e1) i) (lt (getD (b .b1) i nan) (b .u)) (solved1 tables u (t .t1) p i) (a .one i h) (new1 i h));
+    two = λ i h. subst (Last (MidByte tables i) p (i % 2) (tables .mixed))
+        (sym (tab-at Entry noEntry (λ i. closed (entAt (s .e2) i) (lt (getD (b .b2) i nan) (b .u)) (solved2 tables u (t .t2) p i)) 256 i h))
+        (closed-last _ p _ _ (entAt (s .e2) i) (lt (getD (b .b2) i nan) (b .u)) (solved2 tables u (t .t2) p i) (a .two i h) (new2 i h));
+    three = λ i h. subst (Last (EndByte tables 1 (i % 64)) p (i / 64) (classOf tables (i / 64)))
+        (sym (tab-at Entry noEntry (λ i. closed (entAt (s .e3) i) (lt (getD (b .b3) i nan) (b .u)) (solved3 tables u (t .t3) p i)) 128 i h))
+        (closed-last _ p _ _ (entAt (s .e3) i) (lt (getD (b .b3) i nan) (b .u)) (solved3 tables u (t .t3) p i) (a .three i h) (new3 i h));
   }
 
   pub last-all : (u0 : Float) → AllLast p (lastSides tables u t p (seedOf tables u t p u0))
@@ -246,7 +274,8 @@ module _ (u : Rule) (U0 : RuleOk u) (t : Targets) (T1 : (j : ℕ) → j < 8 → 
       closing-last (s .sides) (boundsTo tables p (s .sides) (s .u) 4096) (seeds-fine u0 2)
 
   -- ---- a winner that was found goes through three members
-  pub found-through : (u0 : Float) → parity tables u t p u0 .found ≡ true → Through p (parity tables u t p u0 .s1) (parity tables u t p u0 .s2) (parity tables u t p u0 .s3)
+  pub found-through : (u0 : Float) → parity tables u t p u0 .found ≡ true
+      → Through p (parity tables u t p u0 .s1) (parity tables u t p u0 .s2) (parity tables u t p u0 .s3)
   unfolding parity
   found-through u0 f = join-through p (lastSides tables u t p (seedOf tables u t p u0)) (last-all u0) f
 
@@ -267,7 +296,8 @@ module _ (u : Rule) (U0 : RuleOk u) (t : Targets) (T1 : (j : ℕ) → j < 8 → 
 
   -- every path costs a finite amount
   way-finite : (s : Sides) → AllFine p s → (i n : ℕ) → i < 128 → n < 32 → T (finite (costAt tables p s i n))
-  way-finite s a i n h k = sum-below (a .one i h .below) (a .two (midAt tables i n) (m-lt i n k) .below) (a .three (lastAt tables p i n) (n-lt p i n k) .below) .fin
+  way-finite s a i n h k = sum-below (a .one i h .below) (a .two (midAt tables i n) (m-lt i n k) .below)
+      (a .three (lastAt tables p i n) (n-lt p i n k) .below) .fin
 
   -- ---- the seed joins
   abbrev SeedKnown : Seed → Type 0
@@ -289,10 +319,15 @@ module _ (u : Rule) (U0 : RuleOk u) (t : Targets) (T1 : (j : ℕ) → j < 8 → 
       seen : allExact (s .sides) (joinTo tables p (s .sides) 128) ≡ true → Seen tables p (s .sides) (joinTo tables p (s .sides) 128)
           → SeedKnown (record { sides = s .sides; u = lower (s .u) (joinTo tables p (s .sides) 128 .cost); done = true })
       seen q (inl z) = inl (lower-none (s .u) (joinTo tables p (s .sides) 128 .cost) e z)
-      seen q (inr z) = inr (refl, record { i = z .0; n = z .1; i-lt = z .2; n-lt = z .3; exact = subst (λ (w : Way). allExact (s .sides) w ≡ true) (z .4) q })
+      seen q (inr z) = inr (
+        refl,
+        record
+            { i = z .0; n = z .1; i-lt = z .2; n-lt = z .3; exact = subst (λ (w : Way). allExact (s .sides) w ≡ true) (z .4) q },
+      )
 
       go : (m : Bool) → allExact (s .sides) (joinTo tables p (s .sides) 128) ≡ m
-          → SeedKnown (cond {A = Seed} m (record { sides = s .sides; u = lower (s .u) (joinTo tables p (s .sides) 128 .cost); done = true }) (record { sides = seeded tables u t p (s .sides) (joinTo tables p (s .sides) 128); u = s .u; done = false }))
+          → SeedKnown (cond {A = Seed} m (record { sides = s .sides; u = lower (s .u) (joinTo tables p (s .sides) 128 .cost); done = true })
+          (record { sides = seeded tables u t p (s .sides) (joinTo tables p (s .sides) 128); u = s .u; done = false }))
       go true q = seen q (join-seen tables p (s .sides) (way-num p (s .sides) (fine-vals (s .sides) a)) 128 (le-refl 128))
       go false q = inl e
 
@@ -308,7 +343,8 @@ module _ (u : Rule) (U0 : RuleOk u) (t : Targets) (T1 : (j : ℕ) → j < 8 → 
       fresh q (inl e) = e
       fresh q (inr z) = absurd (no-way (sym q ∙ z .0))
 
-      go : (m : Bool) → seedAt n .done ≡ m → SeedKnown (seedAt n) → SeedKnown (cond m (seedAt n) (seedBy tables u t p (seedAt n) (joinTo tables p (seedAt n .sides) 128)))
+      go : (m : Bool) → seedAt n .done ≡ m → SeedKnown (seedAt n)
+          → SeedKnown (cond m (seedAt n) (seedBy tables u t p (seedAt n) (joinTo tables p (seedAt n .sides) 128)))
       go true q k = k
       go false q k = seed-step (seedAt n) (seeds-fine infinity n) (fresh q k)
 
@@ -347,7 +383,9 @@ module _ (u : Rule) (U0 : RuleOk u) (t : Targets) (T1 : (j : ℕ) → j < 8 → 
 
     lowered-first : (n j : ℕ) (c : Float) → j < n → T (finite c) → Fin (lowered (tab (λ (i : ℕ). infinity) n) j c) j
     lowered-first n j c h f =
-        subst (λ (z : Float). T (finite z)) (sym (getD-set-same (tab (λ (i : ℕ). infinity) n) j (lower (getD (tab (λ (i : ℕ). infinity) n) j nan) c) nan (subst (λ (m : ℕ). j < m) (sym (tab-length Float (λ (i : ℕ). infinity) n)) h)))
+        subst (λ (z : Float). T (finite z))
+        (sym (getD-set-same (tab (λ (i : ℕ). infinity) n) j (lower (getD (tab (λ (i : ℕ). infinity) n) j nan) c) nan
+        (subst (λ (m : ℕ). j < m) (sym (tab-length Float (λ (i : ℕ). infinity) n)) h)))
         (lower-fin (getD (tab (λ (i : ℕ). infinity) n) j nan) c f (inl (tab-at Float nan (λ (i : ℕ). infinity) n j h)))
 
     lowered-more : (b : List Float) (i j : ℕ) (c : Float) → T (finite c) → Fin b j → Fin (lowered b i c) j
@@ -365,12 +403,14 @@ module _ (u : Rule) (U0 : RuleOk u) (t : Targets) (T1 : (j : ℕ) → j < 8 → 
     first2 : (n : ℕ) → n < 4096 → Fin (bnd (suc n) .b2) (midAt tables 0 0)
     unfolding boundsTo
     first2 zero h = lowered-first 256 (midAt tables 0 0) (way 0 .cost) (m-lt 0 0 (lit≤ tt)) (way-fin 0 h)
-    first2 (suc n) h = lowered-more (bnd (suc n) .b2) (way (suc n) .i2) (midAt tables 0 0) (way (suc n) .cost) (way-fin (suc n) h) (first2 n (omega arith))
+    first2 (suc n) h = lowered-more (bnd (suc n) .b2) (way (suc n) .i2) (midAt tables 0 0) (way (suc n) .cost) (way-fin (suc n) h)
+        (first2 n (omega arith))
 
     first3 : (n : ℕ) → n < 4096 → Fin (bnd (suc n) .b3) (lastAt tables p 0 0)
     unfolding boundsTo
     first3 zero h = lowered-first 128 (lastAt tables p 0 0) (way 0 .cost) (n-lt p 0 0 (lit≤ tt)) (way-fin 0 h)
-    first3 (suc n) h = lowered-more (bnd (suc n) .b3) (way (suc n) .i3) (lastAt tables p 0 0) (way (suc n) .cost) (way-fin (suc n) h) (first3 n (omega arith))
+    first3 (suc n) h = lowered-more (bnd (suc n) .b3) (way (suc n) .i3) (lastAt tables p 0 0) (way (suc n) .cost) (way-fin (suc n) h)
+        (first3 n (omega arith))
 
     -- ---- what is left at the last join
     abbrev left : Sides
@@ -379,20 +419,29 @@ module _ (u : Rule) (U0 : RuleOk u) (t : Targets) (T1 : (j : ℕ) → j < 8 → 
     stay1 : (i : ℕ) → i < 128 → Stays (entAt (s .e1) i) (lt (getD (bnd 4096 .b1) i nan) (bnd 4096 .u)) → Below Far (entAt (left .e1) i .value)
     unfolding closing
     stay1 i h k =
-        subst (λ (e : Entry). Below Far (e .value)) (sym (tab-at Entry noEntry (λ i. closed (entAt (s .e1) i) (lt (getD (bnd 4096 .b1) i nan) (bnd 4096 .u)) (solved1 tables u (t .t1) p i)) 128 i h))
-        (closed-below (entAt (s .e1) i) (lt (getD (bnd 4096 .b1) i nan) (bnd 4096 .u)) (solved1 tables u (t .t1) p i) (a .one i h .below) (new1 i h .good .below) k)
+        subst (λ (e : Entry). Below Far (e .value))
+        (sym (tab-at Entry noEntry (λ i.
+        closed (entAt (s .e1) i) (lt (getD (bnd 4096 .b1) i nan) (bnd 4096 .u)) (solved1 tables u (t .t1) p i)) 128 i h))
+        (closed-below (entAt (s .e1) i) (lt (getD (bnd 4096 .b1) i nan) (bnd 4096 .u)) (solved1 tables u (t .t1) p i) (a .one i h .below)
+        (new1 i h .good .below) k)
 
     stay2 : (i : ℕ) → i < 256 → Stays (entAt (s .e2) i) (lt (getD (bnd 4096 .b2) i nan) (bnd 4096 .u)) → Below Far (entAt (left .e2) i .value)
     unfolding closing
     stay2 i h k =
-        subst (λ (e : Entry). Below Far (e .value)) (sym (tab-at Entry noEntry (λ i. closed (entAt (s .e2) i) (lt (getD (bnd 4096 .b2) i nan) (bnd 4096 .u)) (solved2 tables u (t .t2) p i)) 256 i h))
-        (closed-below (entAt (s .e2) i) (lt (getD (bnd 4096 .b2) i nan) (bnd 4096 .u)) (solved2 tables u (t .t2) p i) (a .two i h .below) (new2 i h .good .below) k)
+        subst (λ (e : Entry). Below Far (e .value))
+        (sym (tab-at Entry noEntry (λ i.
+        closed (entAt (s .e2) i) (lt (getD (bnd 4096 .b2) i nan) (bnd 4096 .u)) (solved2 tables u (t .t2) p i)) 256 i h))
+        (closed-below (entAt (s .e2) i) (lt (getD (bnd 4096 .b2) i nan) (bnd 4096 .u)) (solved2 tables u (t .t2) p i) (a .two i h .below)
+        (new2 i h .good .below) k)
 
     stay3 : (i : ℕ) → i < 128 → Stays (entAt (s .e3) i) (lt (getD (bnd 4096 .b3) i nan) (bnd 4096 .u)) → Below Far (entAt (left .e3) i .value)
     unfolding closing
     stay3 i h k =
-        subst (λ (e : Entry). Below Far (e .value)) (sym (tab-at Entry noEntry (λ i. closed (entAt (s .e3) i) (lt (getD (bnd 4096 .b3) i nan) (bnd 4096 .u)) (solved3 tables u (t .t3) p i)) 128 i h))
-        (closed-below (entAt (s .e3) i) (lt (getD (bnd 4096 .b3) i nan) (bnd 4096 .u)) (solved3 tables u (t .t3) p i) (a .three i h .below) (new3 i h .good .below) k)
+        subst (λ (e : Entry). Below Far (e .value))
+        (sym (tab-at Entry noEntry (λ i.
+        closed (entAt (s .e3) i) (lt (getD (bnd 4096 .b3) i nan) (bnd 4096 .u)) (solved3 tables u (t .t3) p i)) 128 i h))
+        (closed-below (entAt (s .e3) i) (lt (getD (bnd 4096 .b3) i nan) (bnd 4096 .u)) (solved3 tables u (t .t3) p i) (a .three i h .below)
+        (new3 i h .good .below) k)
 
     under : (v : Float) → T (finite v) → bnd 4096 .u ≡ infinity → lt v (bnd 4096 .u) ≡ true
     under v f e = subst (λ (z : Float). lt v z ≡ true) (sym e) (inf-lt v f)
@@ -406,7 +455,8 @@ module _ (u : Rule) (U0 : RuleOk u) (t : Targets) (T1 : (j : ℕ) → j < 8 → 
             join-finite p left (closing-last s (bnd 4096) a) 0 0 (lit≤ tt) (lit≤ tt)
             (stay1 0 (lit≤ tt) (inr (under (getD (bnd 4096 .b1) 0 nan) (first1 4095 (lit≤ tt)) e)))
             (stay2 (midAt tables 0 0) (m-lt 0 0 (lit≤ tt)) (inr (under (getD (bnd 4096 .b2) (midAt tables 0 0) nan) (first2 4095 (lit≤ tt)) e)))
-            (stay3 (lastAt tables p 0 0) (n-lt p 0 0 (lit≤ tt)) (inr (under (getD (bnd 4096 .b3) (lastAt tables p 0 0) nan) (first3 4095 (lit≤ tt)) e)))
+            (stay3 (lastAt tables p 0 0) (n-lt p 0 0 (lit≤ tt))
+            (inr (under (getD (bnd 4096 .b3) (lastAt tables p 0 0) nan) (first3 4095 (lit≤ tt)) e)))
         go (inr q) =
             let x1 = entAt (s .e1) (q .i) .exact in
             let x2 = entAt (s .e2) (midAt tables (q .i) (q .n)) .exact in

@@ -1,16 +1,14 @@
 -- Three members along a path of the trellis, of classes that add up to the parity, are a lattice point that has a word.
-use mathlib.Core.Path.{_≡_, refl, sym, ap, ap₂, _∙_, subst}
-use mathlib.Core.Bool.{Bool}
+use mathlib.Core.Path.{_≡_, sym, ap, ap₂, _∙_, subst}
 use mathlib.Core.List.{List, _++_}
-use Prim.Native.Nat.{ℕ, suc, _+_, _-_, _*_, _/_, _%_, _^_, _≤_, _<_}
+use Prim.Native.Nat.{ℕ, _+_, _-_, _*_, _/_, _%_, _^_, _≤_, _<_}
 use native.Mathlib.Nat.{mod-lt, zero-lt-suc, mod-eq-of-lt}
 use native.Mathlib.Omega.{arith}
-use lib.Dec.{T, eqb, eqb→eq}
+use lib.Dec.{T}
 use lib.ListN.{getD, length, take, drop}
 use lib.Seq.{ext-getD}
 use lib.IntN.{ℤ, pos}
 use Rattle.laws.specs.Lists.{tab, tab-at, tab-length, append-at, append-past}
-use Rattle.laws.specs.Tables.{every, at}
 use Rattle.laws.specs.Bits.{weight}
 use Rattle.laws.specs.Whole.{modZ}
 use Rattle.rank.specs.Coord.{valOf}
@@ -20,16 +18,17 @@ use Rattle.rank.specs.Section as section
 use Rattle.rank.specs.SectionLaws.{point-uniform, point-bits, point-ranks, point-length}
 use Rattle.rows.specs.Vectors.{below-up, class-ranks, middle-class}
 use Rattle.trellis.specs.Code.{wordOf, columns, label}
-use Rattle.trellis.specs.CodeLaws.{word-lt}
+use Rattle.trellis.specs.Code as code
+use Rattle.trellis.specs.CodeLaws.{word-lt, bytes-even}
 use Rattle.trellis.specs.Tables.{prefixes, middles, nexts, suffixes}
-use Rattle.trellis.specs.Trellis.{prefixOf, middleOf, nextOf, suffixOf, path, s8Of, b1Of, b2Of, b3Of}
-use Rattle.trellis.specs.Path.{path-at, prefixes-length, middles-length, suffixes-length, prefix-lt, middle-lt, suffix-lt, next-lt}
+use Rattle.trellis.specs.Trellis.{prefixOf, middleOf, nextOf, suffixOf, s8Of, b1Of, b2Of, b3Of}
+use Rattle.trellis.specs.Path.{path-at, first-at, second-at, third-at, prefix-lt, middle-lt, suffix-lt, next-lt}
 use Rattle.trellis.specs.Back.{label-parts}
 use Rattle.trellis.specs.TrioLaws.{trio-fits}
 use Rattle.tetra.specs.Lattice.{trio, Codeword, sectionRanks, inOwnClass, HasWord}
 use Rattle.tetra.specs.Tetra.{natural}
 use Rattle.tetra.specs.Orders.{natural-length, natural-at, trio-natural, parity-natural}
-use Rattle.tetra.specs.PointLaws.{ranks-part, below-append, point-at}
+use Rattle.tetra.specs.PointLaws.{weight-same, ranks-part, below-append, point-at}
 use Rattle.tetra.specs.WordLaws.{sum-classes}
 use Rattle.search.specs.declared.Entry.{Entry}
 use Rattle.search.specs.declared.Winner.{Winner}
@@ -39,47 +38,11 @@ use Rattle.search.specs.TableLaws.{entry-byte}
 use Rattle.search.specs.Entries.{sectionAt}
 use Rattle.search.specs.Join.{midAt, lastAt}
 use Rattle.search.specs.Block as block
-use Rattle.nearest.specs.Shape.{oAt}
-use Rattle.nearest.specs.Sections.{bit-a, bit-b, bit-c, up8, up16, up24, all24, glue, glue1, glue2, glue3}
+use Rattle.nearest.specs.Sections.{bit-a, bit-b, bit-c, up8, up16, up24, all24, turn, glue, glue1, glue2, glue3}
+use Rattle.nearest.specs.Winner.{mid-half, mid-bit, end-half, end-rest}
 use Rattle.nearest.specs.TableFacts.{prefix-read, middle-read, next-read, suffix-read}
 use Rattle.members.specs.Ranks.{class-in, middle-in, member-class}
 use Rattle.members.specs.Paths.{Through}
-
--- ---- every byte of a path has an even number of set bits
-even : ℕ → ℕ → Bool
-even i c = eqb (weight 8 c % 2) 0
-
-all-even : T (every even 0 prefixes) × T (every even 0 middles) × T (every even 0 suffixes)
-unfolding even prefixes middles suffixes
-all-even = (tt, tt, tt)
-
-even-prefix : (i : ℕ) → i < 128 → weight 8 (getD prefixes i 0) % 2 ≡ 0
-unfolding even
-even-prefix i h = eqb→eq _ 0 (at even prefixes (all-even .0) i (subst (λ (n : ℕ). i < n) (sym prefixes-length) h))
-
-even-middle : (i : ℕ) → i < 1024 → weight 8 (getD middles i 0) % 2 ≡ 0
-unfolding even
-even-middle i h = eqb→eq _ 0 (at even middles (all-even .1) i (subst (λ (n : ℕ). i < n) (sym middles-length) h))
-
-even-suffix : (i : ℕ) → i < 128 → weight 8 (getD suffixes i 0) % 2 ≡ 0
-unfolding even
-even-suffix i h = eqb→eq _ 0 (at even suffixes (all-even .2) i (subst (λ (n : ℕ). i < n) (sym suffixes-length) h))
-
--- ---- numbers of entries, taken apart
-half-of : (x n : ℕ) → (2 * x + n % 2) / 2 ≡ x
-half-of x n = let a = mod-lt n (zero-lt-suc 1) in omega arith
-
-bit-of : (x n : ℕ) → (2 * x + n % 2) % 2 ≡ n % 2
-bit-of x n = let a = mod-lt n (zero-lt-suc 1) in omega arith
-
-class-of : (q x : ℕ) → x < 64 → (q % 2 * 64 + x) / 64 ≡ q % 2
-class-of q x h = omega arith
-
-state-of : (q x : ℕ) → x < 64 → (q % 2 * 64 + x) % 64 ≡ x
-state-of q x h = omega arith
-
-turn : (r d p : ℕ) → p < 2 → (r + d + (p + r + d) % 2) % 2 ≡ p
-turn r d p h = omega arith
 
 module _ (p : ℕ) (P0 : p < 2) (e1 e2 e3 : Entry) (H : Through p e1 e2 e3) where
   abbrev s8 : ℕ
@@ -117,10 +80,10 @@ module _ (p : ℕ) (P0 : p < 2) (e1 e2 e3 : Entry) (H : Through p e1 e2 e3) wher
   is1 = H .one .byte .2
 
   is2 : e2 .byte ≡ getD middles k 0
-  is2 = H .two .byte ∙ ap (λ (m : ℕ). getD middleSets m 0) (half-of (getD branchEntries k 0) (H .n)) ∙ entry-byte k k-lt
+  is2 = H .two .byte ∙ ap (λ (m : ℕ). getD middleSets m 0) (mid-half (getD branchEntries k 0) (H .n)) ∙ entry-byte k k-lt
 
   is3 : e3 .byte ≡ getD suffixes (2 * getD nexts k 0 + b3) 0
-  is3 = H .three .byte .2 ∙ ap (λ (m : ℕ). getD suffixes (2 * m + b3) 0) (state-of (p + H .i / 64 + H .n % 2) (getD nexts k 0) next-64)
+  is3 = H .three .byte .2 ∙ ap (λ (m : ℕ). getD suffixes (2 * m + b3) 0) (end-rest (p + H .i / 64 + H .n % 2) (getD nexts k 0) next-64)
 
   path1 : prefixOf s8 b1 ≡ e1 .byte
   path1 = prefix-read s8 b1 (H .one .byte .1) ∙ sym is1
@@ -140,18 +103,6 @@ module _ (p : ℕ) (P0 : p < 2) (e1 e2 e3 : Entry) (H : Through p e1 e2 e3) wher
   c3-lt : e3 .byte < 256
   c3-lt = subst (λ (n : ℕ). n < 256) path3 (suffix-lt (nextOf s8 b2) b3)
 
-  two-lt : (s b : ℕ) → s < 64 → b < 2 → 2 * s + b < 128
-  two-lt s b h l = omega arith
-
-  even1 : weight 8 (e1 .byte) % 2 ≡ 0
-  even1 = ap (λ (n : ℕ). weight 8 n % 2) is1 ∙ even-prefix (2 * s8 + b1) (two-lt s8 b1 s8-lt (H .one .byte .1))
-
-  even2 : weight 8 (e2 .byte) % 2 ≡ 0
-  even2 = ap (λ (n : ℕ). weight 8 n % 2) is2 ∙ even-middle k k-lt
-
-  even3 : weight 8 (e3 .byte) % 2 ≡ 0
-  even3 = ap (λ (n : ℕ). weight 8 n % 2) is3 ∙ even-suffix (2 * getD nexts k 0 + b3) (two-lt (getD nexts k 0) b3 next-64 (H .three .byte .1))
-
   -- they are a codeword
   abbrev x : ℕ
   x = label s8 b1 b2 b3
@@ -159,13 +110,28 @@ module _ (p : ℕ) (P0 : p < 2) (e1 e2 e3 : Entry) (H : Through p e1 e2 e3) wher
   abbrev word : ℕ
   word = e1 .byte + 256 * e2 .byte + 65536 * e3 .byte
 
-  code : wordOf columns x ≡ word
-  code =
-      let q = label-parts s8 b1 b2 b3 s8-lt (H .one .byte .1) b2-lt (H .three .byte .1) in
+  abbrev parts : (s8Of x ≡ s8) × (b1Of x ≡ b1) × (b2Of x ≡ b2) × (b3Of x ≡ b3)
+  parts = label-parts s8 b1 b2 b3 s8-lt (H .one .byte .1) b2-lt (H .three .byte .1)
+
+  word-is : wordOf columns x ≡ word
+  word-is =
       path-at x
       ∙ ap₂ (λ (a b : ℕ). a + 65536 * b)
-      (ap₂ (λ (a b : ℕ). a + 256 * b) (ap₂ prefixOf (q .0) (q .1) ∙ path1) (ap₂ middleOf (q .0) (q .2) ∙ path2))
-      (ap₂ suffixOf (ap₂ nextOf (q .0) (q .2)) (q .3) ∙ path3)
+      (ap₂ (λ (a b : ℕ). a + 256 * b) (ap₂ prefixOf (parts .0) (parts .1) ∙ path1) (ap₂ middleOf (parts .0) (parts .2) ∙ path2))
+      (ap₂ suffixOf (ap₂ nextOf (parts .0) (parts .2)) (parts .3) ∙ path3)
+
+  -- so each has an even number of set bits
+  even1 : weight 8 (e1 .byte) % 2 ≡ 0
+  even1 = ap (λ (n : ℕ). n % 2) (weight-same 8 (e1 .byte)
+      ∙ ap (code.weight 8) (sym (first-at x ∙ ap₂ prefixOf (parts .0) (parts .1) ∙ path1))) ∙ bytes-even x .0
+
+  even2 : weight 8 (e2 .byte) % 2 ≡ 0
+  even2 = ap (λ (n : ℕ). n % 2) (weight-same 8 (e2 .byte)
+      ∙ ap (code.weight 8) (sym (second-at x ∙ ap₂ middleOf (parts .0) (parts .2) ∙ path2))) ∙ bytes-even x .1
+
+  even3 : weight 8 (e3 .byte) % 2 ≡ 0
+  even3 = ap (λ (n : ℕ). n % 2) (weight-same 8 (e3 .byte)
+      ∙ ap (code.weight 8) (sym (third-at x ∙ ap₂ suffixOf (ap₂ nextOf (parts .0) (parts .2)) (parts .3) ∙ path3))) ∙ bytes-even x .2
 
   -- ---- the three rows
   abbrev v1 : List ℕ
@@ -190,10 +156,10 @@ module _ (p : ℕ) (P0 : p < 2) (e1 e2 e3 : Entry) (H : Through p e1 e2 e3) wher
   r1-lt = let a = H .i-lt in omega arith
 
   mid-class : midAt tables (H .i) (H .n) % 2 ≡ r2
-  mid-class = bit-of (getD branchEntries k 0) (H .n)
+  mid-class = mid-bit (getD branchEntries k 0) (H .n)
 
   last-class : lastAt tables p (H .i) (H .n) / 64 ≡ r3
-  last-class = class-of (p + r1 + r2) (getD nexts k 0) next-64
+  last-class = end-half (p + r1 + r2) (getD nexts k 0) next-64
 
   last-lt : lastAt tables p (H .i) (H .n) / 64 < 2
   last-lt = subst (λ (n : ℕ). n < 2) (sym last-class) (mod-lt (p + r1 + r2) (zero-lt-suc 1))
@@ -223,7 +189,8 @@ module _ (p : ℕ) (P0 : p < 2) (e1 e2 e3 : Entry) (H : Through p e1 e2 e3) wher
   class2 = member-class p (e2 .byte) (midAt tables (H .i) (H .n) % 2) (tables .mixed) (e2 .key) P0 c2-lt even2 low2 (H .two .good .is) ∙ mid-class
 
   class3' : class v3 ≡ lastAt tables p (H .i) (H .n) / 64
-  class3' = member-class p (e3 .byte) (lastAt tables p (H .i) (H .n) / 64) (classOf tables (lastAt tables p (H .i) (H .n) / 64)) (e3 .key) P0 c3-lt even3 low3 (H .three .good .is)
+  class3' = member-class p (e3 .byte) (lastAt tables p (H .i) (H .n) / 64) (classOf tables (lastAt tables p (H .i) (H .n) / 64))
+      (e3 .key) P0 c3-lt even3 low3 (H .three .good .is)
 
   -- ---- the point in trio order
   abbrev ranks : List ℕ
@@ -242,7 +209,7 @@ module _ (p : ℕ) (P0 : p < 2) (e1 e2 e3 : Entry) (H : Through p e1 e2 e3) wher
   all-p = point-uniform p P0 word ranks low
 
   bits : section.bitsOf z ≡ word
-  bits = point-bits p P0 word ranks low ∙ mod-eq-of-lt (subst (λ (n : ℕ). n < 2 ^ 24) code (word-lt x))
+  bits = point-bits p P0 word ranks low ∙ mod-eq-of-lt (subst (λ (n : ℕ). n < 2 ^ 24) word-is (word-lt x))
 
   ranks-are : section.ranksOf z ≡ ranks
   ranks-are = point-ranks p P0 word ranks low
@@ -264,7 +231,7 @@ module _ (p : ℕ) (P0 : p < 2) (e1 e2 e3 : Entry) (H : Through p e1 e2 e3) wher
   sec2 = ap (λ (t : List ℤ). section.ranksOf (take 8 (drop 16 t))) back ∙ ranks-part 16 z ∙ ap (λ (v : List ℕ). take 8 (drop 16 v)) ranks-are
 
   codeword : Codeword (section.bitsOf (trio y))
-  codeword = record { label = x; made = code ∙ sym bits ∙ ap section.bitsOf (sym back) }
+  codeword = record { label = x; made = word-is ∙ sym bits ∙ ap section.bitsOf (sym back) }
 
   first : T (inOwnClass (sectionRanks y 0))
   first = subst (λ (v : List ℕ). T (inOwnClass v)) (sym sec0) (subst (λ (r : ℕ). T (inClass r v1)) (sym class1) in1)
@@ -278,7 +245,8 @@ module _ (p : ℕ) (P0 : p < 2) (e1 e2 e3 : Entry) (H : Through p e1 e2 e3) wher
   sum : modZ (section.kSum y) 2 ≡ p
   sum =
       sum-classes p y (natural-length z) (subst (λ (t : List ℤ). T (section.uniform p t)) (sym back) all-p) codeword first second third
-      ∙ ap₂ (λ (a b : ℕ). (a + b) % 2) (ap₂ (λ (a b : ℕ). a + b) (ap class sec0 ∙ class1) (ap class sec1 ∙ class2)) (ap class sec2 ∙ class3' ∙ last-class)
+      ∙ ap₂ (λ (a b : ℕ). (a + b) % 2) (ap₂ (λ (a b : ℕ). a + b) (ap class sec0 ∙ class1) (ap class sec1 ∙ class2))
+      (ap class sec2 ∙ class3' ∙ last-class)
       ∙ turn r1 r2 p P0
 
   natural-word : HasWord (natural z)
@@ -301,13 +269,16 @@ module _ (p : ℕ) (P0 : p < 2) (e1 e2 e3 : Entry) (H : Through p e1 e2 e3) wher
   trio-is =
       all24 (λ j. getD z j (pos 0) ≡ three j)
       (λ j h. point-at p word ranks j (up8 h)
-      ∙ coordinate-is j (e1 .byte) (e1 .key) (bitAt word j) (getD ranks j 0) (bit-a (e1 .byte) (e2 .byte) (e3 .byte) c1-lt j h) h (append-at ℕ 0 v1 (v2 ++ v3) j h)
+      ∙ coordinate-is j (e1 .byte) (e1 .key) (bitAt word j) (getD ranks j 0) (bit-a (e1 .byte) (e2 .byte) (e3 .byte) c1-lt j h) h
+      (append-at ℕ 0 v1 (v2 ++ v3) j h)
       ∙ sym (glue1 (sectionAt p (e1 .byte) (e1 .key)) (sectionAt p (e2 .byte) (e2 .key)) (sectionAt p (e3 .byte) (e3 .key)) j h))
       (λ j h. point-at p word ranks (8 + j) (up16 h)
-      ∙ coordinate-is j (e2 .byte) (e2 .key) (bitAt word (8 + j)) (getD ranks (8 + j) 0) (bit-b (e1 .byte) (e2 .byte) (e3 .byte) c1-lt c2-lt j h) h (middle-at j h)
+      ∙ coordinate-is j (e2 .byte) (e2 .key) (bitAt word (8 + j)) (getD ranks (8 + j) 0)
+      (bit-b (e1 .byte) (e2 .byte) (e3 .byte) c1-lt c2-lt j h) h (middle-at j h)
       ∙ sym (glue2 (sectionAt p (e1 .byte) (e1 .key)) (sectionAt p (e2 .byte) (e2 .key)) (sectionAt p (e3 .byte) (e3 .key)) j h))
       (λ j h. point-at p word ranks (16 + j) (up24 h)
-      ∙ coordinate-is j (e3 .byte) (e3 .key) (bitAt word (16 + j)) (getD ranks (16 + j) 0) (bit-c (e1 .byte) (e2 .byte) (e3 .byte) c1-lt c2-lt j h) h (last-at j h)
+      ∙ coordinate-is j (e3 .byte) (e3 .key) (bitAt word (16 + j)) (getD ranks (16 + j) 0)
+      (bit-c (e1 .byte) (e2 .byte) (e3 .byte) c1-lt c2-lt j h) h (last-at j h)
       ∙ sym (glue3 (sectionAt p (e1 .byte) (e1 .key)) (sectionAt p (e2 .byte) (e2 .key)) (sectionAt p (e3 .byte) (e3 .key)) j h))
     where
       past : (m j : ℕ) → m ≤ m + j

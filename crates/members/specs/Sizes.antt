@@ -2,19 +2,19 @@
 use mathlib.Core.Path.{_≡_, refl, sym}
 use mathlib.Core.List.{List}
 use Prim.Native.Nat.{ℕ, zero, suc, _+_, _*_, _^_, _≤_, _<_, zero-le}
-use native.Mathlib.Nat.{le-refl, le-trans, le-of-eq, le-of-mul-le-mul-right, lt-of-le-of-lt, lt-of-lt-of-le, le-of-lt, mul-le-mul, mul-le-mul-right, add-le-add, add-mul, suc-mul, mul-assoc}
+use native.Mathlib.Nat.{le-refl, le-trans, le-of-eq, le-of-mul-le-mul-right, lt-of-le-of-lt, lt-of-lt-of-le, le-of-lt, mul-le-mul, mul-le-mul-right, add-le-add, add-mul, suc-mul}
 use native.Mathlib.Omega.{arith}
 use lib.Dec.{T, lit≤}
 use lib.Pow.{pow-pos}
 use lib.ListN.{getD}
 use lib.IntN.{ℤ, natAbs}
-use lib.Ieee.{Float, nan, binary64, fits, add, sub, mul, ofInt}
+use lib.Ieee.{Float, nan, binary64, fits, add, sub, ofInt}
 use lib.Ieee.Scale.{finite}
 use Rattle.laws.specs.Whole.{gap}
 use Rattle.float.specs.Value.{U, magUnits, posUnits, negUnits, zero64}
 use Rattle.float.specs.Exact.{mag-parts, ofInt-whole, zero-fits, zero-mag}
 use Rattle.float.specs.Error.{halfUlp}
-use Rattle.float.specs.Near.{Near, near-self, near-mag-plain}
+use Rattle.float.specs.Near.{near-self, near-mag-plain}
 use Rattle.float.specs.Arithmetic.{near-add, near-sub, mul-rounded}
 use Rattle.search.specs.Record.{sqTo, slotK, member}
 use Rattle.search.specs.Entries.{distTo}
@@ -43,7 +43,13 @@ zero-below B = record { fit = zero-fits; fin = tt; low = le-trans (le-of-eq zero
 pub add-below : {A B : ℕ} {x y : Float} → Below A x → Below B y → A + B < Room → Below (A + B + Err) (add binary64 x y)
 add-below {A} {B} {x} {y} a b h =
     let n = near-add 60 (near-self x (a .fit) (a .fin)) (near-self y (b .fit) (b .fin)) (lit≤ tt) (lt-of-le-of-lt (add-le-add (a .low) (b .low)) h) in
-    record { fit = n .fit; fin = n .fin; low = le-trans (near-mag-plain n) (go (posUnits x) (negUnits x) (posUnits y) (negUnits y) (magUnits x) (magUnits y) A B Err (mag-parts x) (mag-parts y) (a .low) (b .low)) }
+    record {
+      fit = n .fit;
+      fin = n .fin;
+      low =
+          le-trans (near-mag-plain n) (go (posUnits x) (negUnits x) (posUnits y) (negUnits y) (magUnits x) (magUnits y) A B Err (mag-parts x)
+          (mag-parts y) (a .low) (b .low));
+    }
   where
     go : (p n q m x y A B e : ℕ) → x ≡ p + n → y ≡ q + m → x ≤ A → y ≤ B → gap (p + q) (n + m) + (0 + 0 + e * 1) ≤ A + B + e
     go p n q m x y A B e h k u v = omega arith
@@ -51,7 +57,13 @@ add-below {A} {B} {x} {y} a b h =
 pub sub-below : {A B : ℕ} {x y : Float} → Below A x → Below B y → A + B < Room → Below (A + B + Err) (sub binary64 x y)
 sub-below {A} {B} {x} {y} a b h =
     let n = near-sub 60 (near-self x (a .fit) (a .fin)) (near-self y (b .fit) (b .fin)) (lit≤ tt) (lt-of-le-of-lt (add-le-add (a .low) (b .low)) h) in
-    record { fit = n .fit; fin = n .fin; low = le-trans (near-mag-plain n) (go (posUnits x) (negUnits x) (posUnits y) (negUnits y) (magUnits x) (magUnits y) A B Err (mag-parts x) (mag-parts y) (a .low) (b .low)) }
+    record {
+      fit = n .fit;
+      fin = n .fin;
+      low =
+          le-trans (near-mag-plain n) (go (posUnits x) (negUnits x) (posUnits y) (negUnits y) (magUnits x) (magUnits y) A B Err (mag-parts x)
+          (mag-parts y) (a .low) (b .low));
+    }
   where
     go : (p n q m x y A B e : ℕ) → x ≡ p + n → y ≡ q + m → x ≤ A → y ≤ B → gap (p + m) (n + q) + (0 + 0 + e * 1) ≤ A + B + e
     go p n q m x y A B e h k u v = omega arith
@@ -75,19 +87,22 @@ term-below v t h T0 =
     record {
       fit = r .fit;
       fin = r .fin;
-      low = le-of-mul-le-mul-right (le-trans (r .hi) (le-trans (add-le-add (le-trans s (le-of-eq same)) (le-refl (Err * U))) (le-of-eq (sym (add-mul (2 ^ 1122) Err U))))) (pow-pos 1074);
+      low = le-of-mul-le-mul-right (le-trans (r .hi)
+          (le-trans (add-le-add (le-trans s (le-of-eq same)) (le-refl (Err * U))) (le-of-eq (sym (add-mul (2 ^ 1122) Err U))))) (pow-pos 1074);
     }
   where
     same : 2 ^ 1098 * 2 ^ 1098 ≡ 2 ^ 1122 * U
     same = refl
 
 -- ---- a section's distance, summed from zero on
-pub dist-below : (v : ℕ → ℤ) (ts : List Float) → ((j : ℕ) → j < 8 → natAbs (v j) < 2 ^ 22) → ((j : ℕ) → j < 8 → Target (getD ts j nan)) → (n : ℕ) → n ≤ 8 → Below (n * Term) (distTo v ts n)
+pub dist-below : (v : ℕ → ℤ) (ts : List Float) → ((j : ℕ) → j < 8 → natAbs (v j) < 2 ^ 22) → ((j : ℕ) → j < 8 → Target (getD ts j nan))
+    → (n : ℕ) → n ≤ 8 → Below (n * Term) (distTo v ts n)
 unfolding distTo
 dist-below v ts W T0 zero h = zero-below (0 * Term)
 dist-below v ts W T0 (suc n) h =
     wider (suc n * Term) (more n Term (2 ^ 1122 + Err) Err (lit≤ tt))
-    (add-below (dist-below v ts W T0 n (omega arith)) (term-below (v n) (getD ts n nan) (W n h) (T0 n h)) (lt-of-le-of-lt (add-le-add (mul-le-mul-right Term (le8 h)) (le-refl (2 ^ 1122 + Err))) (lit≤ tt)))
+    (add-below (dist-below v ts W T0 n (omega arith)) (term-below (v n) (getD ts n nan) (W n h) (T0 n h))
+    (lt-of-le-of-lt (add-le-add (mul-le-mul-right Term (le8 h)) (le-refl (2 ^ 1122 + Err))) (lit≤ tt)))
   where
     le8 : suc n ≤ 8 → n ≤ 8
     le8 h = omega arith

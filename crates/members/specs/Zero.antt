@@ -7,6 +7,7 @@ use Prim.Native.Nat.{ℕ, zero, suc, _+_, _*_, _/_, _%_, _^_, _≤_, _<_}
 use native.Mathlib.Nat.{le-refl, le-trans, le-of-eq, le-of-mul-le-mul-right, mul-zero, zero-mul, mod-lt, zero-lt-suc, mul-le-mul}
 use native.Mathlib.Decide.{ℕ-discrete}
 use native.Mathlib.Omega.{arith}
+use borrow.Author.Tests.{eq-eqb, ne-eqb}
 use lib.Dec.{T, ltb, leb, eqb, leb→le, le→leb, lt→ltb, eqb→eq, lit≤}
 use lib.Pow.{pow-pos}
 use lib.ListN.{getD}
@@ -23,19 +24,17 @@ use Rattle.float.specs.Calls.{absOf, halfUp, roundAway, clamped, rounded}
 use Rattle.float.specs.Exact.{zero-fits, zero-mag, no-digits, same-units, round-exactly}
 use Rattle.float.specs.Arithmetic.{mul-fraction}
 use Rattle.search.specs.declared.Coord.{Coord}
-use Rattle.search.specs.declared.Closed.{Closed}
 use Rattle.search.specs.declared.Top.{Top}
-use Rattle.search.specs.Record.{coordAt, coordOf, row, shrinks, slotK, bitAt}
+use Rattle.search.specs.Record.{coordAt, coordOf, row, shrinks, slotK}
 use Rattle.search.specs.Bound.{holds, lexOf, lexNum}
-use Rattle.search.specs.Base.{slotOf, towardOf, parTo, nowTo}
+use Rattle.search.specs.Base.{towardOf, parTo, nowTo}
 use Rattle.search.specs.Solve.{fixOf, topTo}
-use Rattle.search.specs.Entries.{rankAt}
 use Rattle.search.specs.Tables.{tables}
 use Rattle.nearest.specs.Statement.{sumTo}
 use Rattle.nearest.specs.Sums.{sum-le, sum-set}
 use Rattle.nearest.specs.Keys.{markK}
-use Rattle.nearest.specs.Base.{eqb-no, eqb-yes}
-use Rattle.nearest.specs.Shape.{oAt, Shape, row-at, row-slots, now-shape}
+use Rattle.nearest.specs.Under.{clash}
+use Rattle.nearest.specs.Shape.{oAt, o-lt, Shape, row-at, row-slots, now-shape}
 use Rattle.nearest.specs.Rule.{kBase, top-ok, mid-lt, toward-mid}
 use Rattle.members.specs.Sizes.{Target}
 
@@ -49,8 +48,11 @@ times-zero : (t : Float) → T (fits binary64 t) → T (finite t) → (s : Bool)
 times-zero t f i =
     let s = unlike (isMinus t) false in
     let q = mul-fraction t zero64 f zero-fits i tt in
-    let x = round-exactly s (q .num) (q .den) 0 0 (q .den-pos) (lit≤ tt) (lit≤ tt) (none (q .num) (q .den) (q .same) ∙ sym (zero-mul (q .den))) in
-    (s, q .is ∙ same-units (round binary64 s (q .num) (q .den)) (fin s 0 (pos 0)) (x .fit) (fits-zero s) (x .fin) tt (x .sign) (x .mag ∙ sym (no-digits s (pos 0))))
+    let x = round-exactly s (q .num) (q .den) 0 0 (q .den-pos) (lit≤ tt) (lit≤ tt) (none (q .num) (q .den) (q .same) ∙ sym (zero-mul (q .den))) in (
+      s,
+      q .is ∙ same-units (round binary64 s (q .num) (q .den)) (fin s 0 (pos 0)) (x .fit) (fits-zero s) (x .fin) tt (x .sign)
+          (x .mag ∙ sym (no-digits s (pos 0))),
+    )
   where
     nil : (a : ℕ) → a ≤ 0 → a ≡ 0
     nil a h = omega arith
@@ -59,7 +61,8 @@ times-zero t f i =
     none n d e =
         nil (n * U)
         (le-of-mul-le-mul-right
-        (le-of-eq (e ∙ ap (λ (z : ℕ). magUnits t * z * d) zero-mag ∙ ap (λ (z : ℕ). z * d) (mul-zero (magUnits t)) ∙ zero-mul d ∙ sym (zero-mul U))) (pow-pos 1074))
+        (le-of-eq (e ∙ ap (λ (z : ℕ). magUnits t * z * d) zero-mag ∙ ap (λ (z : ℕ). z * d) (mul-zero (magUnits t)) ∙ zero-mul d
+        ∙ sym (zero-mul U))) (pow-pos 1074))
 
 -- ---- the record of a coordinate, by the sign of that zero and the offset
 abbrev zF : Bool → ℕ → Float
@@ -179,7 +182,8 @@ module _ (p c : ℕ) (k : ℕ → ℤ) (cost key : ℕ) (C : Shape p c k cost ke
   unfolding sumTo lexOf lexNum
   ones-hold h =
       cut-holds cost key (le-trans (le-of-eq (C .cost-is)) (sum-le weights (λ j. 0) 9 8 (λ j l. square-le (mark j) 3 (three (mark j) (h j l)))))
-      (lex-le _ _ _ _ _ _ _ _ (digit 0 (lit≤ tt)) (digit 1 (lit≤ tt)) (digit 2 (lit≤ tt)) (digit 3 (lit≤ tt)) (digit 4 (lit≤ tt)) (digit 5 (lit≤ tt)) (digit 6 (lit≤ tt)) (digit 7 (lit≤ tt)))
+      (lex-le _ _ _ _ _ _ _ _ (digit 0 (lit≤ tt)) (digit 1 (lit≤ tt)) (digit 2 (lit≤ tt)) (digit 3 (lit≤ tt)) (digit 4 (lit≤ tt))
+      (digit 5 (lit≤ tt)) (digit 6 (lit≤ tt)) (digit 7 (lit≤ tt)))
     where
       three : (r : ℕ) → r ≤ 1 → 2 * r + 1 ≤ 3
       three r h = omega arith
@@ -190,7 +194,8 @@ module _ (p c : ℕ) (k : ℕ → ℤ) (cost key : ℕ) (C : Shape p c k cost ke
   one-holds : (i : ℕ) → i < 8 → mark i ≤ 2 → ((j : ℕ) → j < 8 → j ≢ i → mark j ≡ 0) → holds (tables .mixed) cost key ≡ true
   unfolding sumTo
   one-holds i I0 h z =
-      low-holds cost key (go cost (sumTo weights 8) (weights i) (C .cost-is) (sum-set weights (λ j. 1) i 8 I0 (λ j l d. ap sq (z j l d))) (square-le (mark i) 5 (five (mark i) h)))
+      low-holds cost key (go cost (sumTo weights 8) (weights i) (C .cost-is)
+      (sum-set weights (λ j. 1) i 8 I0 (λ j l d. ap sq (z j l d))) (square-le (mark i) 5 (five (mark i) h)))
     where
       five : (r : ℕ) → r ≤ 2 → 2 * r + 1 ≤ 5
       five r h = omega arith
@@ -202,9 +207,6 @@ module _ (p c : ℕ) (k : ℕ → ℤ) (cost key : ℕ) (C : Shape p c k cost ke
 shrink-zero : getD shrinks 7 nan ≡ zero64
 unfolding shrinks
 shrink-zero = refl
-
-o-lt4 : (p c j : ℕ) → p < 2 → oAt p c j < 4
-o-lt4 p c j h = let a = mod-lt (c / 2 ^ j) (zero-lt-suc 1) in omega arith
 
 even-case : (c j : ℕ) → (oAt 0 c j ≡ 0) ⊎ (oAt 0 c j ≡ 2)
 even-case c j = go (c / 2 ^ j % 2) (mod-lt (c / 2 ^ j) (zero-lt-suc 1))
@@ -232,25 +234,27 @@ module _ (ts : List Float) (p c : ℕ) (P0 : p < 2) (T0 : (j : ℕ) → j < 8 �
   o j = oAt p c j
 
   at : (j : ℕ) → j < 8 → AtZero (o j) (coordAt e j)
-  at j h = subst (AtZero (o j)) (sym (row-at ts p c 7 j h ∙ ap (λ (x : Float). coordOf (getD ts j nan) x (o j)) shrink-zero)) (at-zero (getD ts j nan) (T0 j h .fit) (T0 j h .fin) (o j))
+  at j h = subst (AtZero (o j)) (sym (row-at ts p c 7 j h ∙ ap (λ (x : Float). coordOf (getD ts j nan) x (o j)) shrink-zero))
+      (at-zero (getD ts j nan) (T0 j h .fit) (T0 j h .fin) (o j))
 
   is-m2 : (j : ℕ) (h : j < 8) → markK (o j) (slotK (coordAt e j .k0) 2) ≡ m2 (at j h .s) (o j)
   is-m2 j h = ap (λ (k : ℤ). markK (o j) (slotK k 2)) (at j h .k-is)
 
   is-mt : (j : ℕ) (h : j < 8) → markK (o j) (slotK (coordAt e j .k0) (towardOf (coordAt e j .dir))) ≡ mt (at j h .s) (o j)
-  is-mt j h = ap (λ (k : ℤ). markK (o j) (slotK k (towardOf (coordAt e j .dir)))) (at j h .k-is) ∙ ap (λ (d : ℤ). markK (o j) (slotK (kF (at j h .s) (o j)) (towardOf d))) (at j h .dir-is)
+  is-mt j h = ap (λ (k : ℤ). markK (o j) (slotK k (towardOf (coordAt e j .dir)))) (at j h .k-is)
+      ∙ ap (λ (d : ℤ). markK (o j) (slotK (kF (at j h .s) (o j)) (towardOf d))) (at j h .dir-is)
 
   two-le : (j : ℕ) → j < 8 → markK (o j) (slotK (coordAt e j .k0) 2) ≤ 1
-  two-le j h = le-trans (le-of-eq (is-m2 j h)) (marks-at (at j h .s) (o j) (o-lt4 p c j P0) .two-le)
+  two-le j h = le-trans (le-of-eq (is-m2 j h)) (marks-at (at j h .s) (o j) (o-lt p c j P0) .two-le)
 
   two-none : (j : ℕ) → j < 8 → o j ≢ 2 → markK (o j) (slotK (coordAt e j .k0) 2) ≡ 0
-  two-none j h d = is-m2 j h ∙ marks-at (at j h .s) (o j) (o-lt4 p c j P0) .two-none d
+  two-none j h d = is-m2 j h ∙ marks-at (at j h .s) (o j) (o-lt p c j P0) .two-none d
 
   to-le : (j : ℕ) → j < 8 → markK (o j) (slotK (coordAt e j .k0) (towardOf (coordAt e j .dir))) ≤ 2
-  to-le j h = le-trans (le-of-eq (is-mt j h)) (marks-at (at j h .s) (o j) (o-lt4 p c j P0) .to-le)
+  to-le j h = le-trans (le-of-eq (is-mt j h)) (marks-at (at j h .s) (o j) (o-lt p c j P0) .to-le)
 
   to-one : (j : ℕ) → j < 8 → o j ≢ 0 → markK (o j) (slotK (coordAt e j .k0) (towardOf (coordAt e j .dir))) ≤ 1
-  to-one j h d = le-trans (le-of-eq (is-mt j h)) (marks-at (at j h .s) (o j) (o-lt4 p c j P0) .to-one d)
+  to-one j h d = le-trans (le-of-eq (is-mt j h)) (marks-at (at j h .s) (o j) (o-lt p c j P0) .to-one d)
 
   -- ---- regrets: none is less than that of the offset 0, and that of 2 is greater
   reg-at : (j q : ℕ) (h : j < 8) → o j ≡ q → coordAt e j .regret ≡ regF (at j h .s) q
@@ -260,19 +264,19 @@ module _ (ts : List Float) (p c : ℕ) (P0 : p < 2) (T0 : (j : ℕ) → j < 8 �
   unfolding order
   grows a b h k x y =
       ap₂ lt (reg-at a 0 h x) (reg-at b 2 k y)
-      ∙ is-true _ (split3 (lt (regF (at a h .s) 0) (regF (at b k .s) 2)) (not (lt (regF (at a h .s) 0) (regF (at b k .s) 0))) (not (lt (regF (at a h .s) 2) (regF (at b k .s) 0))) (all-order (at a h .s) (at b k .s)) .0)
+      ∙ is-true _ (split3 (lt (regF (at a h .s) 0) (regF (at b k .s) 2)) (not (lt (regF (at a h .s) 0) (regF (at b k .s) 0)))
+      (not (lt (regF (at a h .s) 2) (regF (at b k .s) 0))) (all-order (at a h .s) (at b k .s)) .0)
 
   least : (a b : ℕ) → a < 8 → b < 8 → (o a ≡ 0) ⊎ (o a ≡ 2) → o b ≡ 0 → lt (coordAt e a .regret) (coordAt e b .regret) ≡ false
   unfolding order
   least a b h k (inl x) y =
       ap₂ lt (reg-at a 0 h x) (reg-at b 0 k y)
-      ∙ not-true _ (split3 (lt (regF (at a h .s) 0) (regF (at b k .s) 2)) (not (lt (regF (at a h .s) 0) (regF (at b k .s) 0))) (not (lt (regF (at a h .s) 2) (regF (at b k .s) 0))) (all-order (at a h .s) (at b k .s)) .1)
+      ∙ not-true _ (split3 (lt (regF (at a h .s) 0) (regF (at b k .s) 2)) (not (lt (regF (at a h .s) 0) (regF (at b k .s) 0)))
+      (not (lt (regF (at a h .s) 2) (regF (at b k .s) 0))) (all-order (at a h .s) (at b k .s)) .1)
   least a b h k (inr x) y =
       ap₂ lt (reg-at a 2 h x) (reg-at b 0 k y)
-      ∙ not-true _ (split3 (lt (regF (at a h .s) 0) (regF (at b k .s) 2)) (not (lt (regF (at a h .s) 0) (regF (at b k .s) 0))) (not (lt (regF (at a h .s) 2) (regF (at b k .s) 0))) (all-order (at a h .s) (at b k .s)) .2)
-
-  clash : {b : Bool} → b ≡ true → b ≡ false → ⊥
-  clash p q = subst T (sym p ∙ q) tt
+      ∙ not-true _ (split3 (lt (regF (at a h .s) 0) (regF (at b k .s) 2)) (not (lt (regF (at a h .s) 0) (regF (at b k .s) 0)))
+      (not (lt (regF (at a h .s) 2) (regF (at b k .s) 0))) (all-order (at a h .s) (at b k .s)) .2)
 
   -- where the largest regret is that of the offset 0, every offset is 0
   module _ (E : (j : ℕ) → (o j ≡ 0) ⊎ (o j ≡ 2)) where
@@ -298,10 +302,12 @@ module _ (ts : List Float) (p c : ℕ) (P0 : p < 2) (T0 : (j : ℕ) → j < 8 �
             none : suc (suc j) < 0 + 2 → ⊥
             none l = omega arith
 
-        go : (b : Bool) → lt (coordAt e 0 .regret) (coordAt e 1 .regret) ≡ b → AllZero (cond b (record { j0 = 1; j1 = 0 }) (record { j0 = 0; j1 = 1 })) (0 + 2)
+        go : (b : Bool) → lt (coordAt e 0 .regret) (coordAt e 1 .regret) ≡ b
+            → AllZero (cond b (record { j0 = 1; j1 = 0 }) (record { j0 = 0; j1 = 1 })) (0 + 2)
         go true q x j l = absurd (clash q (least 0 1 (lit≤ tt) (lit≤ tt) (E 0) x))
         go false q x j l = two j l x (older 0 1 (lit≤ tt) (lit≤ tt) q x)
-    top-zero (suc n) h = go (top-zero n (omega arith)) (lt (coordAt e a .regret) (coordAt e (n + 2) .regret)) refl (lt (coordAt e (topTo e n .j1) .regret) (coordAt e (n + 2) .regret))
+    top-zero (suc n) h = go (top-zero n (omega arith)) (lt (coordAt e a .regret) (coordAt e (n + 2) .regret)) refl
+        (lt (coordAt e (topTo e n .j1) .regret) (coordAt e (n + 2) .regret))
       where
         a : ℕ
         a = topTo e n .j0
@@ -323,7 +329,8 @@ module _ (ts : List Float) (p c : ℕ) (P0 : p < 2) (T0 : (j : ℕ) → j < 8 �
             at' (no d) = r x j (low l d)
 
         go : AllZero (topTo e n) (n + 2) → (b : Bool) → lt (coordAt e (topTo e n .j0) .regret) (coordAt e (n + 2) .regret) ≡ b → (d : Bool)
-            → AllZero (cond b (record { j0 = n + 2; j1 = topTo e n .j0 }) (cond d (record { j0 = topTo e n .j0; j1 = n + 2 }) (topTo e n))) (suc n + 2)
+            → AllZero (cond b (record { j0 = n + 2; j1 = topTo e n .j0 }) (cond d (record { j0 = topTo e n .j0; j1 = n + 2 }) (topTo e n)))
+            (suc n + 2)
         go r true q d x = absurd (clash q (least (topTo e n .j0) (n + 2) a8 n8 (E (topTo e n .j0)) x))
         go r false q true x = more r x (older (topTo e n .j0) (n + 2) a8 n8 q x)
         go r false q false x = more r x (older (topTo e n .j0) (n + 2) a8 n8 q x)
@@ -368,8 +375,9 @@ module _ (ts : List Float) (p c : ℕ) (P0 : p < 2) (T0 : (j : ℕ) → j < 8 �
       differ a q z = omega arith
   zero-case E (inl x) =
       one-holds p c (kBase e j0 to) (nowTo e j0 to 8 .cost) (nowTo e j0 to 8 .key) stepped-shape j0 J0
-      (subst (λ (b : Bool). markK (o j0) (slotK (coordAt e j0 .k0) (cond b to 2)) ≤ 2) (sym (eqb-yes j0)) (to-le j0 J0))
-      (λ j h d. ap (λ (b : Bool). markK (o j) (slotK (coordAt e j .k0) (cond b to 2))) (eqb-no j j0 d) ∙ two-none j h (differ (o j) (top-zero E 6 (le-refl 6) x j h)))
+      (subst (λ (b : Bool). markK (o j0) (slotK (coordAt e j0 .k0) (cond b to 2)) ≤ 2) (sym (eq-eqb j0 j0 refl)) (to-le j0 J0))
+      (λ j h d. ap (λ (b : Bool). markK (o j) (slotK (coordAt e j .k0) (cond b to 2))) (ne-eqb j j0 d)
+      ∙ two-none j h (differ (o j) (top-zero E 6 (le-refl 6) x j h)))
     where
       differ : (a : ℕ) → a ≡ 0 → a ≢ 2
       differ a q z = omega arith
@@ -397,5 +405,6 @@ module _ (ts : List Float) (p c : ℕ) (P0 : p < 2) (T0 : (j : ℕ) → j < 8 �
   zero-held want = go (eqb (parTo e 8) want)
     where
       go : (b : Bool) → Held (cond b 2 to)
-      go true = ones-hold p c (kBase e j0 2) (nowTo e j0 2 8 .cost) (nowTo e j0 2 8 .key) (now-shape p c e (row-slots ts p c 7) j0 2 (lit≤ tt)) plain-le
+      go true = ones-hold p c (kBase e j0 2) (nowTo e j0 2 8 .cost) (nowTo e j0 2 8 .key)
+          (now-shape p c e (row-slots ts p c 7) j0 2 (lit≤ tt)) plain-le
       go false = stepped-held

@@ -7,10 +7,10 @@ use Prim.Native.Nat.{ℕ, zero, suc, _+_, _-_, _*_, _/_, _%_, _^_, _≤_, _<_}
 use native.Mathlib.Nat.{le-refl, le-trans, le-of-eq, le-of-lt, mul-le-mul-left, mul-add, mod-lt, zero-lt-suc}
 use native.Mathlib.Omega.{arith}
 use native.Mathlib.Decide.{ℕ-discrete}
-use lib.Dec.{T, eqb, eqb→eq, eqb-refl, lit≤}
+use borrow.Author.Tests.{eq-eqb, ne-eqb}
+use lib.Dec.{T, eqb, eqb→eq, lit≤}
 use lib.ListN.{getD}
-use lib.Signed.{ltZ}
-use lib.IntN.{ℤ, pos, ℤ-discrete, +ℤ-idr, +ℤ-one, -ℤ-one}
+use lib.IntN.{ℤ, ℤ-discrete, +ℤ-idr}
 use lib.Ieee.{Float, nan, lt}
 use Rattle.float.specs.Value.{posUnits, negUnits, U, one64}
 use Rattle.float.specs.Near.{Near}
@@ -22,24 +22,10 @@ use Rattle.search.specs.Record.{coordAt, noCoord, coordOf, slotK, row, shrinks,
 use Rattle.search.specs.Base.{slotOf, towardOf, parTo, worstTo}
 use Rattle.nearest.specs.Statement.{oddK, sumTo, parK}
 use Rattle.nearest.specs.Sums.{strong, stepped-up, sum-le, sum-same, sum-set, odd-le}
-use Rattle.nearest.specs.Ints.{gapK, far, odd-suc, odd-pred}
+use Rattle.nearest.specs.Ints.{gapK, far}
 use Rattle.nearest.specs.Coordinate.{Target, Rounds, E1, rounds}
 
 -- a Boolean test of numbers, decided
-pub eqb-no : (a b : ℕ) → a ≢ b → eqb a b ≡ false
-eqb-no a b h = go (eqb a b) (eqb→eq a b)
-  where
-    go : (t : Bool) → (T t → a ≡ b) → t ≡ false
-    go true k = absurd (h (k tt))
-    go false k = refl
-
-pub eqb-yes : (a : ℕ) → eqb a a ≡ true
-eqb-yes a = go (eqb a a) (eqb-refl a)
-  where
-    go : (t : Bool) → T t → t ≡ true
-    go true k = refl
-    go false k = absurd k
-
 abbrev pub sq : ℕ → ℕ
 sq x = x * x
 
@@ -66,6 +52,15 @@ worst-lt e (suc n) h = go (lt (coordAt e (worstTo e n) .regret) (coordAt e n .re
     go : (b : Bool) → worstTo e n < 8 → cond b n (worstTo e n) < 8
     go true k = h
     go false k = k
+
+-- the parity of the roundings
+pub par-is : (e : List Coord) (n : ℕ) → parTo e n ≡ parK (λ j. coordAt e j .k0) n
+unfolding parTo sumTo
+par-is e zero = refl
+par-is e (suc n) = go (parTo e n) (sumTo (λ j. oddK (coordAt e j .k0)) n) (oddK (coordAt e n .k0)) (par-is e n)
+  where
+    go : (a b x : ℕ) → a ≡ b % 2 → (a + x) % 2 ≡ (b + x) % 2
+    go a b x h = omega arith
 
 module _ (ts : List Float) (p c : ℕ) (P0 : p < 2) (T0 : (j : ℕ) → j < 8 → Target (getD ts j nan)) where
   abbrev pub tJ : ℕ → Float
@@ -127,10 +122,13 @@ module _ (ts : List Float) (p c : ℕ) (P0 : p < 2) (T0 : (j : ℕ) → j < 8 �
       weak : (x y : Float) → Less x y → AtMost x y
       weak x y a = le-of-lt a
 
-      go : (j < n → AtMost (reg j) (reg (worstTo eR n))) → Dec (n ≡ j) → (b : Bool) → lt (reg (worstTo eR n)) (reg n) ≡ b → AtMost (reg j) (reg (cond b n (worstTo eR n)))
+      go : (j < n → AtMost (reg j) (reg (worstTo eR n))) → Dec (n ≡ j) → (b : Bool) → lt (reg (worstTo eR n)) (reg n) ≡ b
+          → AtMost (reg j) (reg (cond b n (worstTo eR n)))
       go r (yes e) true q = subst (λ (i : ℕ). AtMost (reg i) (reg n)) e (same (reg n))
-      go r (yes e) false q = subst (λ (i : ℕ). AtMost (reg i) (reg (worstTo eR n))) e (not-lt-is (reg (worstTo eR n)) (reg n) (fw .fit) (fn .fit) (fw .fin) (fn .fin) q)
-      go r (no d) true q = trans (reg j) (reg (worstTo eR n)) (reg n) (r (less d l)) (weak (reg (worstTo eR n)) (reg n) (lt-is (reg (worstTo eR n)) (reg n) (fw .fit) (fn .fit) (fw .fin) (fn .fin) (subst T (sym q) tt)))
+      go r (yes e) false q = subst (λ (i : ℕ). AtMost (reg i) (reg (worstTo eR n))) e
+          (not-lt-is (reg (worstTo eR n)) (reg n) (fw .fit) (fn .fit) (fw .fin) (fn .fin) q)
+      go r (no d) true q = trans (reg j) (reg (worstTo eR n)) (reg n) (r (less d l))
+          (weak (reg (worstTo eR n)) (reg n) (lt-is (reg (worstTo eR n)) (reg n) (fw .fit) (fn .fit) (fw .fin) (fn .fin) (subst T (sym q) tt)))
         where
           less : n ≢ j → j < suc n → j < n
           less d l = omega arith
@@ -146,18 +144,11 @@ module _ (ts : List Float) (p c : ℕ) (P0 : p < 2) (T0 : (j : ℕ) → j < 8 �
   worst-gap j h =
       let a = facts j h .regret in
       let b = facts jW (worst-lt eR 8 (le-refl 8)) .regret in
-      go (posUnits (reg j)) (negUnits (reg j)) (posUnits (reg jW)) (negUnits (reg jW)) (g0 j) (g0 jW) E1 (a .lo) (b .hi) (worst-most 8 (le-refl 8) j h)
+      go (posUnits (reg j)) (negUnits (reg j)) (posUnits (reg jW)) (negUnits (reg jW)) (g0 j) (g0 jW) E1 (a .lo) (b .hi)
+      (worst-most 8 (le-refl 8) j h)
     where
       go : (pj mj pw mw x y e : ℕ) → x + mj * 4 ≤ pj * 4 + 0 + e → pw * 4 + 0 ≤ y + mw * 4 + e → pj + mw ≤ pw + mj → x ≤ y + (e + e)
       go pj mj pw mw x y e h k l = omega arith
-
-  par-is : (n : ℕ) → parTo eR n ≡ parK kJ n
-  unfolding parTo sumTo
-  par-is zero = refl
-  par-is (suc n) = go (parTo eR n) (sumTo (λ j. oddK (kJ j)) n) (oddK (kJ n)) (par-is n)
-    where
-      go : (a b x : ℕ) → a ≡ b % 2 → (a + x) % 2 ≡ (b + x) % 2
-      go a b x h = omega arith
 
   -- one coordinate: no other whole number is nearer by more than the error
   wK : ℕ
@@ -174,11 +165,13 @@ module _ (ts : List Float) (p c : ℕ) (P0 : p < 2) (T0 : (j : ℕ) → j < 8 �
       go (yes e) = subst (λ (z : ℤ). sqK (oJ j) (kJ j) (tJ j) ≤ sqK (oJ j) z (tJ j) + wK) (sym e) (le-add (sqK (oJ j) (kJ j) (tJ j)) wK)
       go (no d) = round-best (g0 j) (gapK (oJ j) (k j) (tJ j)) U E1 (facts j h .close) (far (oJ j) (k j) (kJ j) (tJ j) d)
 
-  strong-one : (k : ℕ → ℤ) (j : ℕ) → j < 8 → kJ j ≢ k j → sqK (oJ j) (kJ j) (tJ j) + 4 * U * (4 * U) ≤ sqK (oJ j) (k j) (tJ j) + 2 * (4 * U * (g0 jW + (E1 + E1)))
+  strong-one : (k : ℕ → ℤ) (j : ℕ) → j < 8 → kJ j ≢ k j
+      → sqK (oJ j) (kJ j) (tJ j) + 4 * U * (4 * U) ≤ sqK (oJ j) (k j) (tJ j) + 2 * (4 * U * (g0 jW + (E1 + E1)))
   strong-one k j h d =
       let a = facts j h .close in
       let f = far (oJ j) (k j) (kJ j) (tJ j) (λ (e : k j ≡ kJ j). d (sym e)) in
-      let s = strong (4 * U - g0 j) (g0 j) (gapK (oJ j) (k j) (tJ j)) (4 * U) (split (4 * U) (g0 j) (2 * U + E1) a (lit≤ tt)) (under (4 * U) (g0 j) (gapK (oJ j) (k j) (tJ j)) f) in
+      let s = strong (4 * U - g0 j) (g0 j) (gapK (oJ j) (k j) (tJ j)) (4 * U) (split (4 * U) (g0 j) (2 * U + E1) a (lit≤ tt))
+      (under (4 * U) (g0 j) (gapK (oJ j) (k j) (tJ j)) f) in
       le-trans s (twice (sqK (oJ j) (k j) (tJ j)) (4 * U * g0 j) (4 * U * (g0 jW + (E1 + E1))) (mul-le-mul-left (4 * U) (worst-gap j h)))
     where
       split : (u g m : ℕ) → g ≤ m → m ≤ u → u ≡ u - g + g
@@ -205,7 +198,8 @@ module _ (ts : List Float) (p c : ℕ) (P0 : p < 2) (T0 : (j : ℕ) → j < 8 �
 
   base-plain : (k : ℕ → ℤ) → Nearest W3 kJ k
   unfolding wK
-  base-plain k = le-trans (sum-le (λ j. sqK (oJ j) (kJ j) (tJ j)) (λ j. sqK (oJ j) (k j) (tJ j)) wK 8 (plain-one k)) (more (sumTo (λ j. sqK (oJ j) (k j) (tJ j)) 8) (8 * wK) W3 (lit≤ tt))
+  base-plain k = le-trans (sum-le (λ j. sqK (oJ j) (kJ j) (tJ j)) (λ j. sqK (oJ j) (k j) (tJ j)) wK 8 (plain-one k))
+      (more (sumTo (λ j. sqK (oJ j) (k j) (tJ j)) 8) (8 * wK) W3 (lit≤ tt))
     where
       more : (a b c : ℕ) → b ≤ c → a + b ≤ a + c
       more a b c h = omega arith
@@ -215,10 +209,10 @@ module _ (ts : List Float) (p c : ℕ) (P0 : p < 2) (T0 : (j : ℕ) → j < 8 �
   sK j = slotK (kJ j) (slotOf jW (towardOf (coordAt eR jW .dir)) j)
 
   stepped-at : sK jW ≡ slotK (kJ jW) (towardOf (coordAt eR jW .dir))
-  stepped-at = ap (λ (b : Bool). slotK (kJ jW) (cond b (towardOf (coordAt eR jW .dir)) 2)) (eqb-yes jW)
+  stepped-at = ap (λ (b : Bool). slotK (kJ jW) (cond b (towardOf (coordAt eR jW .dir)) 2)) (eq-eqb jW jW refl)
 
   stepped-off : (j : ℕ) → j ≢ jW → sK j ≡ kJ j
-  stepped-off j d = ap (λ (b : Bool). slotK (kJ j) (cond b (towardOf (coordAt eR jW .dir)) 2)) (eqb-no j jW d) ∙ slot2 (kJ j)
+  stepped-off j d = ap (λ (b : Bool). slotK (kJ j) (cond b (towardOf (coordAt eR jW .dir)) 2)) (ne-eqb j jW d) ∙ slot2 (kJ j)
 
   abbrev terms : (ℕ → ℤ) → ℕ → ℕ
   terms k j = sqK (oJ j) (k j) (tJ j)
@@ -234,10 +228,12 @@ module _ (ts : List Float) (p c : ℕ) (P0 : p < 2) (T0 : (j : ℕ) → j < 8 �
       let g1 = gapK (oJ jW) (slotK (kJ jW) (towardOf (coordAt eR jW .dir))) (tJ jW) in
       let a = sum-set bas own jW 8 w8 (λ j l m. ap (λ (z : ℤ). sqK (oJ j) z (tJ j)) (stepped-off j m)) in
       let a' : sumTo bas 8 + g0 jW * g0 jW ≡ sumTo own 8 + g1 * g1 = a ∙ ap (λ (z : ℤ). sumTo own 8 + sqK (oJ jW) z (tJ jW)) stepped-at in
-      let b = stepped-up (4 * U - g0 jW) (g0 jW) g1 (4 * U) E1 (split (4 * U) (g0 jW) (2 * U + E1) (R .close) (lit≤ tt)) (under (4 * U) (g0 jW) g1 E1 (R .toward)) in
+      let b = stepped-up (4 * U - g0 jW) (g0 jW) g1 (4 * U) E1 (split (4 * U) (g0 jW) (2 * U + E1) (R .close) (lit≤ tt))
+      (under (4 * U) (g0 jW) g1 E1 (R .toward)) in
       let c = odd-le own oth kJ k wK (4 * U * (4 * U)) (2 * (4 * U * (g0 jW + (E1 + E1)))) 8 d (plain-one k) (strong-one k) in
       let r = repair (sumTo bas 8) (sumTo own 8) (sumTo oth 8) (g0 jW) g1 (4 * U) 0 (8 * wK) E1 (4 * U - g0 jW) a' b c in
-      le-trans r (more (sumTo oth 8) (4 * (4 * U * E1)) (8 * wK) (E1 * (4 * U - g0 jW)) (E1 * (4 * U)) (E1 * E1) W3 (mul-le-mul-left E1 (le-sub (4 * U) (g0 jW))) (lit≤ tt))
+      le-trans r (more (sumTo oth 8) (4 * (4 * U * E1)) (8 * wK) (E1 * (4 * U - g0 jW)) (E1 * (4 * U)) (E1 * E1) W3
+      (mul-le-mul-left E1 (le-sub (4 * U) (g0 jW))) (lit≤ tt))
     where
       split : (u g m : ℕ) → g ≤ m → m ≤ u → u ≡ u - g + g
       split u g m h k = omega arith
@@ -262,9 +258,13 @@ module _ (ts : List Float) (p c : ℕ) (P0 : p < 2) (T0 : (j : ℕ) → j < 8 �
           at true = slot2 (kJ j)
           at false = slot2 (kJ j)
 
-      go : (b : Bool) → (T b → parTo eR 8 ≡ r) → eqb (parTo eR 8) r ≡ b → sumTo (λ j. sqK (oJ j) (slotK (kJ j) (slotOf jW (cond b 2 (towardOf (coordAt eR jW .dir))) j)) (tJ j)) 8 ≤ sumTo (λ j. sqK (oJ j) (k j) (tJ j)) 8 + W3
-      go true e q = le-trans (le-of-eq (sum-same (λ j. sqK (oJ j) (slotK (kJ j) (slotOf jW 2 j)) (tJ j)) (λ j. sqK (oJ j) (kJ j) (tJ j)) 8 (λ j l. ap (λ (z : ℤ). sqK (oJ j) z (tJ j)) (off j)))) (base-plain k)
-      go false e q = base-stepped k (λ (x : parK kJ 8 ≡ parK k 8). no-eq (parTo eR 8) r q (par-is 8 ∙ x ∙ h))
+      go : (b : Bool) → (T b → parTo eR 8 ≡ r) → eqb (parTo eR 8) r ≡ b
+          → sumTo (λ j. sqK (oJ j) (slotK (kJ j) (slotOf jW (cond b 2 (towardOf (coordAt eR jW .dir))) j)) (tJ j)) 8 ≤ sumTo
+          (λ j. sqK (oJ j) (k j) (tJ j)) 8 + W3
+      go true e q = le-trans (le-of-eq
+          (sum-same (λ j. sqK (oJ j) (slotK (kJ j) (slotOf jW 2 j)) (tJ j)) (λ j. sqK (oJ j) (kJ j) (tJ j)) 8
+          (λ j l. ap (λ (z : ℤ). sqK (oJ j) z (tJ j)) (off j)))) (base-plain k)
+      go false e q = base-stepped k (λ (x : parK kJ 8 ≡ parK k 8). no-eq (parTo eR 8) r q (par-is eR 8 ∙ x ∙ h))
         where
           no-eq : (a b : ℕ) → eqb a b ≡ false → a ≢ b
-          no-eq a b q e = subst T (sym (subst (λ (z : ℕ). eqb a z ≡ true) e (eqb-yes a)) ∙ q) tt
+          no-eq a b q e = subst T (sym (eq-eqb a _ e) ∙ q) tt

@@ -21,11 +21,14 @@ use lib.Ieee.{Float, nan, binary64, fits}
 use lib.Ieee.Scale.{finite}
 use Rattle.float.specs.Distance.{sqDist, margin}
 use Rattle.tetra.specs.Lattice.{LatticePoint, HasWord}
+use Rattle.tetra.specs.Tetra.{natural}
+use Rattle.search.specs.Tables.{tables}
 use Rattle.search.specs.Parity.{bothParities}
 use Rattle.search.specs.Block.{ruleOf, winnerFor, pointFrom}
 use Rattle.nearest.specs.Statement.{RuleOk}
 use Rattle.nearest.specs.Link.{p-lt, leech, leech-parity, has-rows, lattice, lattice-parity}
-use Rattle.nearest.specs.Natural.{in-natural-order}
+use Rattle.nearest.specs.Sections.{LeechTrio}
+use Rattle.nearest.specs.Natural.{is-answered, is-point}
 
 -- ---- the statement
 -- a target: 24 numbers, each a double (`fits binary64`) and finite
@@ -44,7 +47,7 @@ pub record Finds (ps : List ℕ) (n : ℕ) (t : List Float) (y : List ℤ) : Typ
   pub point : pointFrom (winnerFor ps n t) ≡ y
 
 -- ---- every setting runs at most the eight shrinks there are
-rule-ok : (n : ℕ) → RuleOk (ruleOf n)
+pub rule-ok : (n : ℕ) → RuleOk (ruleOf n)
 rule-ok n = record { ends = go (ltb n 7) refl; mids = up (ltb n 8) refl }
   where
     go : (b : Bool) → ltb n 7 ≡ b → cond b n 7 ≤ 8
@@ -61,14 +64,21 @@ pub nearest : (ps : List ℕ) → ((q : ℕ) → List·Memᴰ q ps → q < 2)
     → (y : List ℤ) (W : HasWord y) → List·Memᴰ (W .point .p) ps → Nearest ps y t
     → (n : ℕ) → Finds ps n t y
 nearest ps PS t D y W m H n =
-    let searched : List·Memᴰ (leech y (W .point) .p) ps = subst (λ (q : ℕ). List·Memᴰ q ps) (sym (leech-parity y (W .point))) m in
-    let r =
-    in-natural-order t (D .size) (D .double) (D .bounded) ps PS y (leech y (W .point)) searched (has-rows y W)
-    (λ z L i d. H z (lattice z L) (subst (λ (q : ℕ). List·Memᴰ q ps) (sym (lattice-parity z L)) i) d) (ruleOf n) (rule-ok n) in
-    record { found = r .0; point = r .1 }
+    record {
+      found = is-answered t (D .size) (D .double) (D .bounded) ps PS y (W .point .size) (leech y (W .point)) searched (has-rows y W) far
+          (ruleOf n) (rule-ok n);
+      point = is-point t (D .size) (D .double) (D .bounded) ps PS y (W .point .size) (leech y (W .point)) searched (has-rows y W) far
+          (ruleOf n) (rule-ok n);
+    }
+  where
+    searched : List·Memᴰ (leech y (W .point) .p) ps
+    searched = subst (λ (q : ℕ). List·Memᴰ q ps) (sym (leech-parity y (W .point))) m
+
+    far : (z : List ℤ) (Z : LeechTrio tables z) → List·Memᴰ (Z .p) ps → natural z ≢ y → sqDist y t + margin < sqDist (natural z) t
+    far z Z i d = H (natural z) (lattice z Z) (subst (λ (q : ℕ). List·Memᴰ q ps) (sym (lattice-parity z Z)) i) d
 
 -- ---- the full coder searches both parities: the lattice points are all there are
-both-lt : (q : ℕ) → List·Memᴰ q bothParities → q < 2
+pub both-lt : (q : ℕ) → List·Memᴰ q bothParities → q < 2
 both-lt q (List·Memᴰ·head e) = subst (λ (n : ℕ). n < 2) (sym e) (zero-lt-suc 1)
 both-lt q (List·Memᴰ·tail (List·Memᴰ·head e)) = subst (λ (n : ℕ). n < 2) (sym e) (le-refl 2)
 both-lt q (List·Memᴰ·tail (List·Memᴰ·tail m)) = absurd (List·Memᴰ·not-nil m)
@@ -91,9 +101,12 @@ only-zero : (q : ℕ) → List·Memᴰ q (0 ∷ []) → q ≡ 0
 only-zero q (List·Memᴰ·head e) = e
 only-zero q (List·Memᴰ·tail m) = absurd (List·Memᴰ·not-nil m)
 
+pub even-lt : (q : ℕ) → List·Memᴰ q (0 ∷ []) → q < 2
+even-lt q m = subst (λ (k : ℕ). k < 2) (sym (only-zero q m)) (zero-lt-suc 1)
+
 pub nearest-even : (t : List Float) → Target t → (y : List ℤ) (W : HasWord y) → W .point .p ≡ 0
     → ((z : List ℤ) (Z : LatticePoint z) → Z .p ≡ 0 → z ≢ y → sqDist y t + margin < sqDist z t)
     → (n : ℕ) → Finds (0 ∷ []) n t y
 nearest-even t D y W e H n =
-    nearest (0 ∷ []) (λ q m. subst (λ (k : ℕ). k < 2) (sym (only-zero q m)) (zero-lt-suc 1)) t D y W (List·Memᴰ·head e)
+    nearest (0 ∷ []) even-lt t D y W (List·Memᴰ·head e)
     (λ z Z m d. H z Z (only-zero (Z .p) m) d) n

@@ -4,6 +4,7 @@ pub mod Accepted
 pub mod OnPoint
 -- the form that the proof works with, and that it is what document 01 has
 pub mod Statement
+pub mod Packed
 pub mod Link
 -- the proof: sums and signed numbers; one coordinate; the base of a pattern; doubles
 pub mod Sums

@@ -3,19 +3,27 @@
 -- not meet demand 3. Assumes nothing.
 use mathlib.Core.Path.{_≡_, refl, sym, ap, ap₂, _∙_, subst}
 use mathlib.Core.Logic.{_≢_, _⊎_, inl, inr}
+use mathlib.Core.Bool.{Bool, false, not, _&&_}
 use mathlib.Core.List.{List, [], _∷_, map, List·Memᴰ}
 use Prim.Native.Nat.{ℕ, suc, _+_, _*_, _≤_, _<_, suc-le-suc}
 use native.Mathlib.Nat.{le-trans, le-of-eq, lt-of-lt-of-le, lt-of-le-of-lt, mul-le-mul, mul-le-mul-right, add-mul, suc-mul, zero-lt-suc}
 use native.Mathlib.Omega.{arith}
-use lib.Dec.{T, lit≤}
+use borrow.Author.Tests.{not-true}
+use lib.Dec.{T, eqb, eqb→eq, lit≤}
 use lib.ListN.{getD, length, length-map}
+use lib.Seq.{ext-getD}
 use lib.IntN.{ℤ, pos, negsuc, natAbs, ℤ-discrete}
-use lib.Ieee.{Float, nan, binary64, fits, ofInt}
+use lib.Ieee.{Float, nan, binary64, fits, ofInt, div, lt, toBits, ofBits}
+use lib.Ieee.Fits.{div-fits, ofInt-fits}
+use lib.Ieee.Bits.{ofBits-toBits}
 use lib.Ieee.Scale.{finite}
+use Rattle.laws.specs.Tests.{and-left, and-right, is-true, upto, below}
 use Rattle.laws.specs.Lists.{tab, map-at}
 use Rattle.laws.specs.Whole.{posPart, negPart, gap}
 use Rattle.rank.specs.Coord.{parityOf}
-use Rattle.float.specs.Value.{U}
+use Rattle.float.specs.Value.{U, one64}
+use Rattle.float.specs.Calls.{absOf, million64, quotientsOf}
+use Rattle.float.specs.Arrays.{quotients-length, quotients-at}
 use Rattle.float.specs.Exact.{IsWhole, ofInt-whole}
 use Rattle.float.specs.Distance.{coordGap, sqDist, margin}
 use Rattle.tetra.specs.Lattice.{LatticePoint, HasWord}
@@ -26,6 +34,7 @@ use Rattle.search.specs.Parity.{bothParities}
 use Rattle.search.specs.Block.{winnerFor, pointFrom}
 use Rattle.nearest.specs.Ints.{apart-parts, less-or}
 use Rattle.nearest.specs.Demand3.{Target, Finds, nearest, nearest-full}
+use Rattle.nearest.specs.Accepted.{Accepted, nearest-accepted}
 
 -- a point as doubles
 abbrev pub doubles : List ℤ → List Float
@@ -101,12 +110,11 @@ some-distance (u ∷ z) (v ∷ y) l e d = go (ℤ-discrete u v) (λ n. some-dist
 
 -- ---- a point that has a word
 module _ (y : List ℤ) (W : HasWord y) where
+  small : (i : ℕ) → i < 24 → natAbs (getD y i (pos 0)) ≤ 10
+  small i h = let w = onto y W in subst (λ (l : List ℤ). natAbs (getD l i (pos 0)) ≤ 10) (w .2) (coordinate-small (w .0) i h)
+
   exact : Exact y
-  exact i h =
-      let w = onto y W in
-      let l : i < 24 = subst (λ (n : ℕ). i < n) (W .point .size) h in
-      ofInt-whole (getD y i (pos 0))
-      (lt-of-le-of-lt (subst (λ (l : List ℤ). natAbs (getD l i (pos 0)) ≤ 10) (w .2) (coordinate-small (w .0) i l)) (lit≤ tt))
+  exact i h = ofInt-whole (getD y i (pos 0)) (lt-of-le-of-lt (small i (subst (λ (n : ℕ). i < n) (W .point .size) h)) (lit≤ tt))
 
   double-at : (j : ℕ) → j < 24 → getD (doubles y) j nan ≡ ofInt binary64 (getD y j (pos 0))
   double-at j h = map-at ℤ Float (ofInt binary64) nan (pos 0) y j (subst (λ (n : ℕ). j < n) (sym (W .point .size)) h)
@@ -134,6 +142,73 @@ module _ (y : List ℤ) (W : HasWord y) where
 
   pub on-a-point-full : (n : ℕ) → Finds bothParities n (doubles y) y
   on-a-point-full n = nearest-full (doubles y) on-target y W alone n
+
+-- ---- as an accepted call: a point that has a word, taken for the samples at the scale 1, is its own target
+-- a small whole number over 1 is itself, and not above a million
+plain : ℤ → Bool
+plain v =
+    eqb (toBits binary64 (div binary64 (ofInt binary64 v) one64)) (toBits binary64 (ofInt binary64 v)) && not
+    (lt million64 (absOf (ofInt binary64 v)))
+
+all-plain : T (upto 11 (λ n. plain (pos n) && plain (negsuc n)))
+unfolding plain div ofInt toBits lt absOf
+all-plain = tt
+
+plain-at : (v : ℤ) → natAbs v ≤ 10 → T (plain v)
+plain-at (pos n) h =
+    and-left (plain (pos n)) (plain (negsuc n)) (below 11 (λ n. plain (pos n) && plain (negsuc n)) all-plain n (omega arith))
+plain-at (negsuc n) h =
+    and-right (plain (pos n)) (plain (negsuc n)) (below 11 (λ n. plain (pos n) && plain (negsuc n)) all-plain n (omega arith))
+
+over-one : (v : ℤ) → natAbs v ≤ 10 → div binary64 (ofInt binary64 v) one64 ≡ ofInt binary64 v
+unfolding plain
+over-one v h =
+    let x = ofInt binary64 v in
+    let q = div binary64 x one64 in
+    let t = and-left (eqb (toBits binary64 q) (toBits binary64 x)) (not (lt million64 (absOf x))) (plain-at v h) in
+    sym (ofBits-toBits binary64 q (div-fits binary64 x one64)) ∙ ap (ofBits binary64) (eqb→eq (toBits binary64 q) (toBits binary64 x) t)
+    ∙ ofBits-toBits binary64 x (ofInt-fits binary64 v)
+
+not-above : (v : ℤ) → natAbs v ≤ 10 → lt million64 (absOf (ofInt binary64 v)) ≡ false
+unfolding plain
+not-above v h =
+    let x = ofInt binary64 v in
+    not-true (lt million64 (absOf x))
+    (is-true (not (lt million64 (absOf x)))
+    (and-right (eqb (toBits binary64 (div binary64 x one64)) (toBits binary64 x)) (not (lt million64 (absOf x))) (plain-at v h)))
+
+module _ (y : List ℤ) (W : HasWord y) where
+  over-one-at : (j : ℕ) → j < 24 → div binary64 (getD (doubles y) j nan) one64 ≡ getD (doubles y) j nan
+  over-one-at j h = ap (λ (x : Float). div binary64 x one64) (double-at y W j h) ∙ over-one (getD y j (pos 0)) (small y W j h)
+      ∙ sym (double-at y W j h)
+
+  pub at-scale-one : Accepted (doubles y) one64
+  at-scale-one =
+      record {
+        size = on-target y W .size;
+        samples = on-target y W .double;
+        finite-samples = on-target y W .bounded;
+        scale = unfold fits in tt;
+        finite-scale = tt;
+        above-zero = unfold lt in tt;
+        quotients = λ j h.
+            ap (λ (x : Float). lt million64 (absOf x)) (over-one-at j h ∙ double-at y W j h) ∙ not-above (getD y j (pos 0)) (small y W j h);
+      }
+
+  own-target : quotientsOf (doubles y) one64 ≡ doubles y
+  own-target =
+      ext-getD nan (quotientsOf (doubles y) one64) (doubles y) (quotients-length (doubles y) one64)
+      (λ j h.
+      let l : j < length (doubles y) = subst (λ (n : ℕ). j < n) (quotients-length (doubles y) one64) h in
+      quotients-at (doubles y) one64 j l ∙ over-one-at j (subst (λ (n : ℕ). j < n) (on-target y W .size) l))
+
+  -- it meets what demand 3 asks of an accepted call
+  pub accepted-alone : (z : List ℤ) → LatticePoint z → z ≢ y
+      → sqDist y (quotientsOf (doubles y) one64) + margin < sqDist z (quotientsOf (doubles y) one64)
+  accepted-alone z Z d = subst (λ (t : List Float). sqDist y t + margin < sqDist z t) (sym own-target) (alone y W z Z d)
+
+  pub accepted-found : (n : ℕ) → Finds bothParities n (quotientsOf (doubles y) one64) y
+  accepted-found = nearest-accepted (doubles y) one64 at-scale-one y W accepted-alone
 
 -- ---- at the origin, at an odd point (P2) and at an even one (P5)
 found-at : (w : ℕ) (y : List ℤ) → pointOf w ≡ y → (n : ℕ) → Finds bothParities n (doubles y) y

@@ -19,7 +19,8 @@ use Rattle.nearest.specs.Operations.{H, near-plus, near-less}
 use Rattle.nearest.specs.Shape.{oAt, o-lt, two-shape, sum-two}
 use Rattle.nearest.specs.Candidate.{Cand, ET, TopT, tAt, sqV, term, sum-top, member-small}
 
-module _ (ts : List Float) (p c : ℕ) (P0 : p < 2) (T0 : (j : ℕ) → j < 8 → Target (tAt ts j)) (k k' : ℕ → ℤ) (i l : ℕ) (I0 : i < 8) (L0 : l < 8) (D0 : i ≢ l)
+module _ (ts : List Float) (p c : ℕ) (P0 : p < 2) (T0 : (j : ℕ) → j < 8 → Target (tAt ts j)) (k k' : ℕ → ℤ) (i l : ℕ) (I0 : i < 8)
+    (L0 : l < 8) (D0 : i ≢ l)
     (S0 : (j : ℕ) → j < 8 → natAbs (k' j) < 31) (K0 : (j : ℕ) → j < 8 → j ≢ i → j ≢ l → k' j ≡ k j) where
   abbrev wts : (ℕ → ℤ) → ℕ → ℕ
   wts k j = sq (markK (oAt p c j) (k j))
@@ -44,8 +45,11 @@ module _ (ts : List Float) (p c : ℕ) (P0 : p < 2) (T0 : (j : ℕ) → j < 8 �
       let top = sum-top (λ j. member (oAt p c j) (k j)) ts (λ j h. member-small (oAt p c j) (k j) (o-lt p c j P0) (C .small j h)) T0 8 (le-refl 8) in
       let a1 = near-less (C .near) (ti .near) (lt-of-le-of-lt (cap1 (sumTo (sqs k) 8) (sqs k i) TopT E8 ET top (ti .top)) (lit≤ tt)) in
       let a2 = near-less a1 (tl .near) (lt-of-le-of-lt (cap2 (sumTo (sqs k) 8) (sqs k i) (sqs k l) TopT E8 ET H top (ti .top) (tl .top)) (lit≤ tt)) in
-      let a3 = near-plus a2 (ui .near) (lt-of-le-of-lt (cap3 (sumTo (sqs k) 8) (sqs k i) (sqs k l) (sqs k' i) TopT E8 ET H top (ti .top) (tl .top) (ui .top)) (lit≤ tt)) in
-      let a4 = near-plus a3 (ul .near) (lt-of-le-of-lt (cap4 (sumTo (sqs k) 8) (sqs k i) (sqs k l) (sqs k' i) (sqs k' l) TopT E8 ET H top (ti .top) (tl .top) (ui .top) (ul .top)) (lit≤ tt)) in
+      let a3 = near-plus a2 (ui .near)
+      (lt-of-le-of-lt (cap3 (sumTo (sqs k) 8) (sqs k i) (sqs k l) (sqs k' i) TopT E8 ET H top (ti .top) (tl .top) (ui .top)) (lit≤ tt)) in
+      let a4 = near-plus a3 (ul .near)
+      (lt-of-le-of-lt (cap4 (sumTo (sqs k) 8) (sqs k i) (sqs k l) (sqs k' i) (sqs k' l) TopT E8 ET H top (ti .top) (tl .top) (ui .top)
+      (ul .top)) (lit≤ tt)) in
       record {
         small = S0;
         shape = two-shape p c k k' i l I0 L0 D0 K0 cost key (C .shape);
@@ -59,10 +63,12 @@ module _ (ts : List Float) (p c : ℕ) (P0 : p < 2) (T0 : (j : ℕ) → j < 8 �
       cap2 : (s a b n e y h : ℕ) → s ≤ 8 * n → a ≤ n → b ≤ n → s + 0 + (0 + a) + (e + y + h) + (b + 0 + y) ≤ 10 * n + (e + y + h + y)
       cap2 s a b n e y h x z w = omega arith
 
-      cap3 : (s a b r n e y h : ℕ) → s ≤ 8 * n → a ≤ n → b ≤ n → r ≤ n → s + 0 + 0 + (0 + a + b) + (e + y + h + y + h) + (r + 0 + y) ≤ 11 * n + (e + y + h + y + h + y)
+      cap3 : (s a b r n e y h : ℕ) → s ≤ 8 * n → a ≤ n → b ≤ n → r ≤ n
+          → s + 0 + 0 + (0 + a + b) + (e + y + h + y + h) + (r + 0 + y) ≤ 11 * n + (e + y + h + y + h + y)
       cap3 s a b r n e y h x z w v = omega arith
 
-      cap4 : (s a b r q n e y h : ℕ) → s ≤ 8 * n → a ≤ n → b ≤ n → r ≤ n → q ≤ n → s + 0 + 0 + r + (0 + a + b + 0) + (e + y + h + y + h + y + h) + (q + 0 + y) ≤ 12 * n + (e + y + h + y + h + y + h + y)
+      cap4 : (s a b r q n e y h : ℕ) → s ≤ 8 * n → a ≤ n → b ≤ n → r ≤ n → q ≤ n
+          → s + 0 + 0 + r + (0 + a + b + 0) + (e + y + h + y + h + y + h) + (q + 0 + y) ≤ 12 * n + (e + y + h + y + h + y + h + y)
       cap4 s a b r q n e y h x z w v u = omega arith
 
       parts : (s s' a b r q : ℕ) → s' + (a + b) ≡ s + (r + q) → s + 0 + 0 + r + q + 0 ≡ s' + (0 + a + b + 0 + 0)

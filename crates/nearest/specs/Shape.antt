@@ -8,6 +8,7 @@ use Prim.Native.Nat.{ℕ, zero, suc, _+_, _-_, _*_, _/_, _%_, _^_, _≤_, _<_, z
 use native.Mathlib.Nat.{le-refl, le-trans, le-of-eq, le-of-lt, lt-of-le-of-lt, mul-le-mul, mod-lt, zero-lt-suc}
 use native.Mathlib.Omega.{arith}
 use native.Mathlib.Decide.{ℕ-discrete}
+use borrow.Author.Tests.{eq-eqb, ne-eqb, lt-ltb, le-ltb}
 use lib.Dec.{T, ltb, leb, eqb, ltb→lt, nltb→le, leb→le, nleb→lt, eqb→eq, lit≤}
 use lib.ListN.{getD}
 use lib.Bits.{bitOr, bitAnd, or-lt, and-le-l}
@@ -29,7 +30,6 @@ use Rattle.nearest.specs.Keys.{markK, rank-lt, rank-back, nib-put, nib-s
 use Rattle.nearest.specs.Statement.{sumTo}
 use Rattle.nearest.specs.Sums.{sum-set}
 use Rattle.nearest.specs.Ints.{add-parts, abs-parts, member-parts}
-use Rattle.nearest.specs.Base.{eqb-no, eqb-yes}
 
 abbrev pub oAt : ℕ → ℕ → ℕ → ℕ
 oAt p c j = p + 2 * bitAt c j
@@ -72,26 +72,6 @@ weight-le r h l = go (leb r 4) (leb→le r 4) (nleb→lt r 4)
         no : (x : ℕ) → 11 ≤ x → x * x ≤ 96 → ⊥
         no x m k = let y : 11 * 11 ≤ x * x = mul-le-mul m m in omega arith
 
-pub ltb-yes : (a b : ℕ) → a < b → ltb a b ≡ true
-ltb-yes a b h = go (ltb a b) (nltb→le a b)
-  where
-    go : (t : Bool) → (T (not t) → b ≤ a) → t ≡ true
-    go true k = refl
-    go false k = let l = k tt in absurd (clash l)
-      where
-        clash : b ≤ a → ⊥
-        clash l = omega arith
-
-pub ltb-no : (a b : ℕ) → b ≤ a → ltb a b ≡ false
-ltb-no a b h = go (ltb a b) (ltb→lt a b)
-  where
-    go : (t : Bool) → (T t → a < b) → t ≡ false
-    go true k = let l = k tt in absurd (clash l)
-      where
-        clash : a < b → ⊥
-        clash l = omega arith
-    go false k = refl
-
 zeros : T (upto 8 (λ i. eqb (rankAt 0 i) 0))
 zeros = tt
 
@@ -111,7 +91,8 @@ five-at f (suc (suc (suc (suc (suc n))))) d h = absurd (none h)
     none h = omega arith
 
 -- two terms changed
-pub sum-two : (f g : ℕ → ℕ) (i l n : ℕ) → i < n → l < n → i ≢ l → ((j : ℕ) → j < n → j ≢ i → j ≢ l → f j ≡ g j) → sumTo f n + (g i + g l) ≡ sumTo g n + (f i + f l)
+pub sum-two : (f g : ℕ → ℕ) (i l n : ℕ) → i < n → l < n → i ≢ l → ((j : ℕ) → j < n → j ≢ i → j ≢ l → f j ≡ g j) → sumTo f n + (g i + g l)
+    ≡ sumTo g n + (f i + f l)
 sum-two f g i l n hi hl d h =
     let a = sum-set mid g i n hi (λ j k m. off j m) in
     let b = sum-set f mid l n hl (λ j k m. at j k m (ℕ-discrete j i)) in
@@ -121,10 +102,10 @@ sum-two f g i l n hi hl d h =
     mid j = cond (eqb j i) (f i) (g j)
 
     off : (j : ℕ) → j ≢ i → mid j ≡ g j
-    off j m = ap (λ (t : Bool). cond t (f i) (g j)) (eqb-no j i m)
+    off j m = ap (λ (t : Bool). cond t (f i) (g j)) (ne-eqb j i m)
 
     mid-i : mid i ≡ f i
-    mid-i = ap (λ (t : Bool). cond t (f i) (g i)) (eqb-yes i)
+    mid-i = ap (λ (t : Bool). cond t (f i) (g i)) (eq-eqb i i refl)
 
     mid-l : mid l ≡ g l
     mid-l = off l (λ (q : l ≡ i). d (sym q))
@@ -138,16 +119,19 @@ sum-two f g i l n hi hl d h =
 
 pub pair-le : (g : ℕ → ℕ) (i l n : ℕ) → i < n → l < n → i ≢ l → g i + g l ≤ sumTo g n
 pair-le g i l n hi hl d =
-    go (sumTo f n) (sumTo g n) (g i + g l) (f i) (f l) at-i at-l (sum-two f g i l n hi hl d (λ j k x y. ap (λ (t : Bool). cond t 0 (cond (eqb j l) 0 (g j))) (eqb-no j i x) ∙ ap (λ (t : Bool). cond t 0 (g j)) (eqb-no j l y)))
+    go (sumTo f n) (sumTo g n) (g i + g l) (f i) (f l) at-i at-l
+    (sum-two f g i l n hi hl d (λ j k x y.
+    ap (λ (t : Bool). cond t 0 (cond (eqb j l) 0 (g j))) (ne-eqb j i x) ∙ ap (λ (t : Bool). cond t 0 (g j)) (ne-eqb j l y)))
   where
     f : ℕ → ℕ
     f j = cond (eqb j i) 0 (cond (eqb j l) 0 (g j))
 
     at-i : f i ≡ 0
-    at-i = ap (λ (t : Bool). cond t 0 (cond (eqb i l) 0 (g i))) (eqb-yes i)
+    at-i = ap (λ (t : Bool). cond t 0 (cond (eqb i l) 0 (g i))) (eq-eqb i i refl)
 
     at-l : f l ≡ 0
-    at-l = ap (λ (t : Bool). cond t 0 (cond (eqb l l) 0 (g l))) (eqb-no l i (λ (q : l ≡ i). d (sym q))) ∙ ap (λ (t : Bool). cond t 0 (g l)) (eqb-yes l)
+    at-l = ap (λ (t : Bool). cond t 0 (cond (eqb l l) 0 (g l))) (ne-eqb l i (λ (q : l ≡ i). d (sym q)))
+        ∙ ap (λ (t : Bool). cond t 0 (g l)) (eq-eqb l l refl)
 
     go : (sf sg p a b : ℕ) → a ≡ 0 → b ≡ 0 → sf + p ≡ sg + (a + b) → p ≤ sg
     go sf sg p a b x y h = omega arith
@@ -162,11 +146,13 @@ moved-lt key x j y l h =
 
 set-lt : (key x j : ℕ) → key < 2 ^ 32 → keySet key j x < 2 ^ 32
 unfolding keySet
-set-lt key x j h = or-lt 32 (bitAnd key (4294967295 - 15 * 2 ^ (4 * j) % 4294967296)) (x * 2 ^ (4 * j) % 4294967296) (lt-of-le-of-lt (and-le-l key (4294967295 - 15 * 2 ^ (4 * j) % 4294967296)) h) (mod-lt (x * 2 ^ (4 * j)) (zero-lt-suc 4294967295))
+set-lt key x j h = or-lt 32 (bitAnd key (4294967295 - 15 * 2 ^ (4 * j) % 4294967296)) (x * 2 ^ (4 * j) % 4294967296)
+    (lt-of-le-of-lt (and-le-l key (4294967295 - 15 * 2 ^ (4 * j) % 4294967296)) h) (mod-lt (x * 2 ^ (4 * j)) (zero-lt-suc 4294967295))
 
 -- ---- sizes
 pub member-abs : (o : ℕ) (k : ℤ) → natAbs (member o k) ≤ o + 4 * natAbs k
-member-abs o k = go (posPart (member o k)) (negPart (member o k)) o (posPart k) (negPart k) (natAbs k) (natAbs (member o k)) (abs-parts k) (abs-parts (member o k)) (member-parts o k) (one (member o k))
+member-abs o k = go (posPart (member o k)) (negPart (member o k)) o (posPart k) (negPart k) (natAbs k) (natAbs (member o k)) (abs-parts k)
+    (abs-parts (member o k)) (member-parts o k) (one (member o k))
   where
     one : (z : ℤ) → (posPart z ≡ 0) ⊎ (negPart z ≡ 0)
     one (pos n) = inr refl
@@ -190,7 +176,8 @@ off-abs (suc (suc (suc (suc (suc n))))) h = absurd (none h)
 pub slot-abs : (k : ℤ) (f : ℕ) → f < 5 → natAbs (slotK k f) ≤ natAbs k + 2
 slot-abs k f l =
     let z = pos f -ℤ pos 2 in
-    go (posPart (k +ℤ z)) (negPart (k +ℤ z)) (posPart k) (negPart k) (posPart z) (negPart z) (natAbs k) (natAbs z) (natAbs (k +ℤ z)) (off-abs f l) (abs-parts k) (abs-parts z) (abs-parts (k +ℤ z)) (add-parts k z) (one (k +ℤ z))
+    go (posPart (k +ℤ z)) (negPart (k +ℤ z)) (posPart k) (negPart k) (posPart z) (negPart z) (natAbs k) (natAbs z) (natAbs (k +ℤ z))
+    (off-abs f l) (abs-parts k) (abs-parts z) (abs-parts (k +ℤ z)) (add-parts k z) (one (k +ℤ z))
   where
     one : (z : ℤ) → (posPart z ≡ 0) ⊎ (negPart z ≡ 0)
     one (pos n) = inr refl
@@ -233,12 +220,17 @@ row-at ts p c s j h = tab-at Coord noCoord (λ j. coordOf (getD ts j nan) (getD 
 
 pub row-slots : (ts : List Float) (p c s : ℕ) → Slots p c (row ts p c s)
 row-slots ts p c s = record {
-  rank-is = λ j f h l. subst (λ (x : Coord). getD (x .rank) f 0 ≡ markK (oAt p c j) (slotK (x .k0) f)) (sym (row-at ts p c s j h)) (coord-rank (getD ts j nan) (getD shrinks s nan) (oAt p c j) f l);
-  w-is = λ j f h l. subst (λ (x : Coord). getD (x .w) f 0 ≡ sq (markK (oAt p c j) (slotK (x .k0) f))) (sym (row-at ts p c s j h)) (coord-w (getD ts j nan) (getD shrinks s nan) (oAt p c j) f l);
+  rank-is = λ j f h l. subst (λ (x : Coord). getD (x .rank) f 0 ≡ markK (oAt p c j) (slotK (x .k0) f)) (sym (row-at ts p c s j h))
+      (coord-rank (getD ts j nan) (getD shrinks s nan) (oAt p c j) f l);
+  w-is = λ j f h l. subst (λ (x : Coord). getD (x .w) f 0 ≡ sq (markK (oAt p c j) (slotK (x .k0) f))) (sym (row-at ts p c s j h))
+      (coord-w (getD ts j nan) (getD shrinks s nan) (oAt p c j) f l);
 }
 
-pub row-d : (ts : List Float) (p c s j f : ℕ) → j < 8 → f < 5 → getD (coordAt (row ts p c s) j .d) f nan ≡ sqTo (member (oAt p c j) (slotK (coordAt (row ts p c s) j .k0) f)) (getD ts j nan)
-row-d ts p c s j f h l = subst (λ (x : Coord). getD (x .d) f nan ≡ sqTo (member (oAt p c j) (slotK (x .k0) f)) (getD ts j nan)) (sym (row-at ts p c s j h)) (coord-d (getD ts j nan) (getD shrinks s nan) (oAt p c j) f l)
+pub row-d : (ts : List Float) (p c s j f : ℕ) → j < 8 → f < 5 → getD (coordAt (row ts p c s) j .d) f nan
+    ≡ sqTo (member (oAt p c j) (slotK (coordAt (row ts p c s) j .k0) f)) (getD ts j nan)
+row-d ts p c s j f h l = subst
+    (λ (x : Coord). getD (x .d) f nan ≡ sqTo (member (oAt p c j) (slotK (x .k0) f)) (getD ts j nan)) (sym (row-at ts p c s j h))
+    (coord-d (getD ts j nan) (getD shrinks s nan) (oAt p c j) f l)
 
 -- ---- all eight at their slots
 pub slot-lt : (j0 fix j : ℕ) → fix < 5 → slotOf j0 fix j < 5
@@ -259,25 +251,29 @@ module _ (p c : ℕ) (e : List Coord) (R : Slots p c e) (j0 fix : ℕ) (F0 : fix
 
   now-key : (n : ℕ) → n ≤ 8 → (i : ℕ) → i < 8 → rankAt (nowTo e j0 fix n .key) i ≡ cond (ltb i n) (markK (oAt p c i) (kS i)) 0
   unfolding nowTo
-  now-key zero h i l = nib-zero i l ∙ ap (λ (b : Bool). cond b (markK (oAt p c i) (kS i)) 0) (sym (ltb-no i 0 zero-le))
+  now-key zero h i l = nib-zero i l ∙ ap (λ (b : Bool). cond b (markK (oAt p c i) (kS i)) 0) (sym (le-ltb i 0 zero-le))
   now-key (suc n) h i l =
       ap (λ (x : ℕ). rankAt (bitOr (nowTo e j0 fix n .key) (x * 2 ^ (4 * n) % 4294967296)) i) (R .rank-is n (slotOf j0 fix n) h (slot-lt j0 fix n F0))
       ∙ nib-put (nowTo e j0 fix n .key) (markK (oAt p c n) (kS n)) n i (rank-lt (oAt p c n) (kS n)) h l
-      (λ (q : i ≡ n). now-key n (omega arith) i l ∙ ap (λ (b : Bool). cond b (markK (oAt p c i) (kS i)) 0) (ltb-no i n (le-of-eq (sym q))))
+      (λ (q : i ≡ n). now-key n (omega arith) i l ∙ ap (λ (b : Bool). cond b (markK (oAt p c i) (kS i)) 0) (le-ltb i n (le-of-eq (sym q))))
       ∙ go (ℕ-discrete i n) (now-key n (omega arith) i l)
     where
       go : Dec (i ≡ n) → rankAt (nowTo e j0 fix n .key) i ≡ cond (ltb i n) (markK (oAt p c i) (kS i)) 0
           → cond (eqb i n) (markK (oAt p c n) (kS n)) (rankAt (nowTo e j0 fix n .key) i) ≡ cond (ltb i (suc n)) (markK (oAt p c i) (kS i)) 0
-      go (yes q) r = subst (λ (z : ℕ). cond (eqb z n) (markK (oAt p c n) (kS n)) (rankAt (nowTo e j0 fix n .key) z) ≡ cond (ltb z (suc n)) (markK (oAt p c z) (kS z)) 0) (sym q)
-          (ap (λ (b : Bool). cond b (markK (oAt p c n) (kS n)) (rankAt (nowTo e j0 fix n .key) n)) (eqb-yes n) ∙ ap (λ (b : Bool). cond b (markK (oAt p c n) (kS n)) 0) (sym (ltb-yes n (suc n) (le-refl (suc n)))))
-      go (no d) r = ap (λ (b : Bool). cond b (markK (oAt p c n) (kS n)) (rankAt (nowTo e j0 fix n .key) i)) (eqb-no i n d) ∙ r ∙ ap (λ (b : Bool). cond b (markK (oAt p c i) (kS i)) 0) (same-ltb (ltb i n) (ltb→lt i n) (nltb→le i n) refl)
+      go (yes q) r = subst (λ (z : ℕ).
+          cond (eqb z n) (markK (oAt p c n) (kS n)) (rankAt (nowTo e j0 fix n .key) z) ≡ cond (ltb z (suc n)) (markK (oAt p c z) (kS z)) 0)
+          (sym q)
+          (ap (λ (b : Bool). cond b (markK (oAt p c n) (kS n)) (rankAt (nowTo e j0 fix n .key) n)) (eq-eqb n n refl)
+          ∙ ap (λ (b : Bool). cond b (markK (oAt p c n) (kS n)) 0) (sym (lt-ltb n (suc n) (le-refl (suc n)))))
+      go (no d) r = ap (λ (b : Bool). cond b (markK (oAt p c n) (kS n)) (rankAt (nowTo e j0 fix n .key) i)) (ne-eqb i n d) ∙ r
+          ∙ ap (λ (b : Bool). cond b (markK (oAt p c i) (kS i)) 0) (same-ltb (ltb i n) (ltb→lt i n) (nltb→le i n) refl)
         where
           same-ltb : (t : Bool) → (T t → i < n) → (T (not t) → n ≤ i) → ltb i n ≡ t → ltb i n ≡ ltb i (suc n)
-          same-ltb true a b q = q ∙ sym (ltb-yes i (suc n) (up (a tt)))
+          same-ltb true a b q = q ∙ sym (lt-ltb i (suc n) (up (a tt)))
             where
               up : i < n → i < suc n
               up h = omega arith
-          same-ltb false a b q = q ∙ sym (ltb-no i (suc n) (over (b tt)))
+          same-ltb false a b q = q ∙ sym (le-ltb i (suc n) (over (b tt)))
             where
               over : n ≤ i → suc n ≤ i
               over h = omega arith
@@ -285,13 +281,14 @@ module _ (p c : ℕ) (e : List Coord) (R : Slots p c e) (j0 fix : ℕ) (F0 : fix
   now-lt : (n : ℕ) → nowTo e j0 fix n .key < 2 ^ 32
   unfolding nowTo
   now-lt zero = lit≤ tt
-  now-lt (suc n) = or-lt 32 (nowTo e j0 fix n .key) (getD (coordAt e n .rank) (slotOf j0 fix n) 0 * 2 ^ (4 * n) % 4294967296) (now-lt n) (mod-lt (getD (coordAt e n .rank) (slotOf j0 fix n) 0 * 2 ^ (4 * n)) (zero-lt-suc 4294967295))
+  now-lt (suc n) = or-lt 32 (nowTo e j0 fix n .key) (getD (coordAt e n .rank) (slotOf j0 fix n) 0 * 2 ^ (4 * n) % 4294967296) (now-lt n)
+      (mod-lt (getD (coordAt e n .rank) (slotOf j0 fix n) 0 * 2 ^ (4 * n)) (zero-lt-suc 4294967295))
 
   pub now-shape : Shape p c kS (nowTo e j0 fix 8 .cost) (nowTo e j0 fix 8 .key)
   now-shape = record {
     cost-is = now-cost 8 (le-refl 8);
     key-lt = now-lt 8;
-    key-is = λ j h. now-key 8 (le-refl 8) j h ∙ ap (λ (b : Bool). cond b (markK (oAt p c j) (kS j)) 0) (ltb-yes j 8 h);
+    key-is = λ j h. now-key 8 (le-refl 8) j h ∙ ap (λ (b : Bool). cond b (markK (oAt p c j) (kS j)) 0) (lt-ltb j 8 h);
   }
 
 -- ---- one coordinate stepped
@@ -302,9 +299,11 @@ module _ (p c : ℕ) (k k' : ℕ → ℤ) (i : ℕ) (I0 : i < 8) (K0 : (j : ℕ)
   abbrev wts : (ℕ → ℤ) → ℕ → ℕ
   wts k j = sq (markK (oAt p c j) (k j))
 
-  pub step-shape : (cost key : ℕ) → Shape p c k cost key → Shape p c k' (cost - sq (markK o (k i)) + sq (markK o (k' i))) (keySet key i (markK o (k' i)))
+  pub step-shape : (cost key : ℕ) → Shape p c k cost key
+      → Shape p c k' (cost - sq (markK o (k i)) + sq (markK o (k' i))) (keySet key i (markK o (k' i)))
   step-shape cost key C = record {
-    cost-is = cost' cost (sumTo (wts k) 8) (sumTo (wts k') 8) (wts k i) (wts k' i) (C .cost-is) (sum-set (wts k') (wts k) i 8 I0 (λ j h d. ap (λ (z : ℤ). sq (markK (oAt p c j) z)) (K0 j h d))) (term-le (wts k) 8 i I0);
+    cost-is = cost' cost (sumTo (wts k) 8) (sumTo (wts k') 8) (wts k i) (wts k' i) (C .cost-is)
+        (sum-set (wts k') (wts k) i 8 I0 (λ j h d. ap (λ (z : ℤ). sq (markK (oAt p c j) z)) (K0 j h d))) (term-le (wts k) 8 i I0);
     key-lt = set-lt key (markK o (k' i)) i (C .key-lt);
     key-is = key';
   }
@@ -316,8 +315,10 @@ module _ (p c : ℕ) (k k' : ℕ → ℤ) (i : ℕ) (I0 : i < 8) (K0 : (j : ℕ)
       key' j h = nib-set key (markK o (k' i)) i j (rank-lt o (k' i)) I0 h ∙ go (ℕ-discrete j i)
         where
           go : Dec (j ≡ i) → cond (eqb j i) (markK o (k' i)) (rankAt key j) ≡ markK (oAt p c j) (k' j)
-          go (yes q) = subst (λ (z : ℕ). cond (eqb z i) (markK o (k' i)) (rankAt key z) ≡ markK (oAt p c z) (k' z)) (sym q) (ap (λ (b : Bool). cond b (markK o (k' i)) (rankAt key i)) (eqb-yes i))
-          go (no d) = ap (λ (b : Bool). cond b (markK o (k' i)) (rankAt key j)) (eqb-no j i d) ∙ C .key-is j h ∙ ap (markK (oAt p c j)) (sym (K0 j h d))
+          go (yes q) = subst (λ (z : ℕ). cond (eqb z i) (markK o (k' i)) (rankAt key z) ≡ markK (oAt p c z) (k' z)) (sym q)
+              (ap (λ (b : Bool). cond b (markK o (k' i)) (rankAt key i)) (eq-eqb i i refl))
+          go (no d) = ap (λ (b : Bool). cond b (markK o (k' i)) (rankAt key j)) (ne-eqb j i d) ∙ C .key-is j h
+              ∙ ap (markK (oAt p c j)) (sym (K0 j h d))
 
 -- ---- two coordinates stepped at once
 module _ (p c : ℕ) (k k' : ℕ → ℤ) (i l : ℕ) (I0 : i < 8) (L0 : l < 8) (D0 : i ≢ l) (K0 : (j : ℕ) → j < 8 → j ≢ i → j ≢ l → k' j ≡ k j) where
@@ -340,12 +341,20 @@ module _ (p c : ℕ) (k k' : ℕ → ℤ) (i l : ℕ) (I0 : i < 8) (L0 : l < 8) 
       key-lt' = moved-lt key (markK (oAt p c i) (k' i)) i (markK (oAt p c l) (k' l)) l (C .key-lt)
 
       key' : (j : ℕ) → j < 8 → rankAt (keyMoved key i (markK (oAt p c i) (k' i)) l (markK (oAt p c l) (k' l))) j ≡ markK (oAt p c j) (k' j)
-      key' j h = nib-moved key (markK (oAt p c i) (k' i)) i (markK (oAt p c l) (k' l)) l j (rank-lt (oAt p c i) (k' i)) (rank-lt (oAt p c l) (k' l)) I0 L0 h D0 ∙ go (ℕ-discrete j i) (ℕ-discrete j l)
+      key' j h = nib-moved key (markK (oAt p c i) (k' i)) i (markK (oAt p c l) (k' l)) l j (rank-lt (oAt p c i) (k' i))
+          (rank-lt (oAt p c l) (k' l)) I0 L0 h D0 ∙ go (ℕ-discrete j i) (ℕ-discrete j l)
         where
-          go : Dec (j ≡ i) → Dec (j ≡ l) → cond (eqb j i) (markK (oAt p c i) (k' i)) (cond (eqb j l) (markK (oAt p c l) (k' l)) (rankAt key j)) ≡ markK (oAt p c j) (k' j)
-          go (yes q) m = ap (λ (t : Bool). cond t (markK (oAt p c i) (k' i)) (cond (eqb j l) (markK (oAt p c l) (k' l)) (rankAt key j))) (subst (λ (z : ℕ). eqb j z ≡ true) q (eqb-yes j)) ∙ ap (λ (z : ℕ). markK (oAt p c z) (k' z)) (sym q)
-          go (no d) (yes q) = ap (λ (t : Bool). cond t (markK (oAt p c i) (k' i)) (cond (eqb j l) (markK (oAt p c l) (k' l)) (rankAt key j))) (eqb-no j i d) ∙ ap (λ (t : Bool). cond t (markK (oAt p c l) (k' l)) (rankAt key j)) (subst (λ (z : ℕ). eqb j z ≡ true) q (eqb-yes j)) ∙ ap (λ (z : ℕ). markK (oAt p c z) (k' z)) (sym q)
-          go (no d) (no e) = ap (λ (t : Bool). cond t (markK (oAt p c i) (k' i)) (cond (eqb j l) (markK (oAt p c l) (k' l)) (rankAt key j))) (eqb-no j i d) ∙ ap (λ (t : Bool). cond t (markK (oAt p c l) (k' l)) (rankAt key j)) (eqb-no j l e) ∙ C .key-is j h ∙ ap (markK (oAt p c j)) (sym (K0 j h d e))
+          go : Dec (j ≡ i) → Dec (j ≡ l)
+              → cond (eqb j i) (markK (oAt p c i) (k' i)) (cond (eqb j l) (markK (oAt p c l) (k' l)) (rankAt key j)) ≡ markK (oAt p c j) (k' j)
+          go (yes q) m = ap (λ (t : Bool). cond t (markK (oAt p c i) (k' i)) (cond (eqb j l) (markK (oAt p c l) (k' l)) (rankAt key j)))
+              (eq-eqb j _ q) ∙ ap (λ (z : ℕ). markK (oAt p c z) (k' z)) (sym q)
+          go (no d) (yes q) = ap (λ (t : Bool).
+              cond t (markK (oAt p c i) (k' i)) (cond (eqb j l) (markK (oAt p c l) (k' l)) (rankAt key j))) (ne-eqb j i d)
+              ∙ ap (λ (t : Bool). cond t (markK (oAt p c l) (k' l)) (rankAt key j)) (eq-eqb j _ q)
+              ∙ ap (λ (z : ℕ). markK (oAt p c z) (k' z)) (sym q)
+          go (no d) (no e) = ap (λ (t : Bool). cond t (markK (oAt p c i) (k' i)) (cond (eqb j l) (markK (oAt p c l) (k' l)) (rankAt key j)))
+              (ne-eqb j i d) ∙ ap (λ (t : Bool). cond t (markK (oAt p c l) (k' l)) (rankAt key j)) (ne-eqb j l e) ∙ C .key-is j h
+              ∙ ap (markK (oAt p c j)) (sym (K0 j h d e))
 
 -- ---- the distance of all eight is their section's, summed afresh
 abbrev pub Dists : List Float → ℕ → ℕ → List Coord → Type 0
@@ -355,7 +364,8 @@ pub now-dist : (ts : List Float) (p c : ℕ) (e : List Coord) → Dists ts p c e
     → nowTo e j0 fix n .dist ≡ distTo (λ j. member (oAt p c j) (slotK (coordAt e j .k0) (slotOf j0 fix j))) ts n
 unfolding nowTo distTo
 now-dist ts p c e D j0 fix F0 zero h = refl
-now-dist ts p c e D j0 fix F0 (suc n) h = ap₂ (add binary64) (now-dist ts p c e D j0 fix F0 n (omega arith)) (D n (slotOf j0 fix n) h (slot-lt j0 fix n F0))
+now-dist ts p c e D j0 fix F0 (suc n) h =
+    ap₂ (add binary64) (now-dist ts p c e D j0 fix F0 n (omega arith)) (D n (slotOf j0 fix n) h (slot-lt j0 fix n F0))
 
 -- ---- within a bound a candidate's key is its section's: ranks of at most 4 give their members back
 pub shape-at : (p c : ℕ) → p < 2 → (b : Closed) → b .cost ≤ 96 → (k : ℕ → ℤ) (cost key : ℕ) → Shape p c k cost key → holds b cost key ≡ true

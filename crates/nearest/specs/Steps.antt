@@ -1,22 +1,20 @@
 -- Candidates made by the loops: all eight at their slots, then one or two coordinates stepped.
-use mathlib.Core.Path.{_≡_, refl, sym, ap, ap₂, subst}
+use mathlib.Core.Path.{_≡_, sym, ap, subst}
 use mathlib.Core.Logic.{_≢_}
 use mathlib.Core.List.{List}
-use Prim.Native.Nat.{ℕ, zero, suc, _+_, _-_, _*_, _≤_, _<_}
+use Prim.Native.Nat.{ℕ, _+_, _-_, _*_, _≤_, _<_}
 use native.Mathlib.Nat.{le-refl, lt-of-le-of-lt}
 use native.Mathlib.Omega.{arith}
 use native.Mathlib.Decide.{ℕ-discrete}
 use lib.Dec.{lit≤}
-use lib.ListN.{getD}
 use lib.IntN.{ℤ, natAbs}
-use lib.Ieee.{Float, nan, binary64, add, sub}
+use lib.Ieee.{Float, binary64, add, sub}
 use Rattle.float.specs.Value.{U}
 use Rattle.float.specs.Near.{Near, near-parts}
 use Rattle.rank.specs.Vector.{sq}
 use Rattle.search.specs.declared.Coord.{Coord}
 use Rattle.search.specs.Record.{coordAt, slotK, sqTo, member}
 use Rattle.search.specs.Base.{slotOf, nowTo, keySet}
-use Rattle.search.specs.Entries.{distTo}
 use Rattle.nearest.specs.Keys.{markK}
 use Rattle.nearest.specs.Statement.{sumTo}
 use Rattle.nearest.specs.Sums.{sum-set}
@@ -48,12 +46,14 @@ module _ (ts : List Float) (p c : ℕ) (P0 : p < 2) (T0 : (j : ℕ) → j < 8 �
     now-cand = record {
       small = kS-small;
       shape = now-shape p c e (R .slots) j0 fix F0;
-      near = subst (λ (x : Float). Near U x (sumTo (λ j. sqV (member (oAt p c j) (kS j)) (tAt ts j)) 8) 0 (8 * (ET + H))) (sym (now-dist ts p c e (R .d-is) j0 fix F0 8 (le-refl 8)))
+      near = subst (λ (x : Float). Near U x (sumTo (λ j. sqV (member (oAt p c j) (kS j)) (tAt ts j)) 8) 0 (8 * (ET + H)))
+          (sym (now-dist ts p c e (R .d-is) j0 fix F0 8 (le-refl 8)))
           (near-dist (λ j. member (oAt p c j) (kS j)) ts (λ j h. member-small (oAt p c j) (kS j) (o-lt p c j P0) (kS-small j h)) T0 8 (le-refl 8));
     }
 
 -- ---- one coordinate stepped
-module _ (ts : List Float) (p c : ℕ) (P0 : p < 2) (T0 : (j : ℕ) → j < 8 → Target (tAt ts j)) (k k' : ℕ → ℤ) (i : ℕ) (I0 : i < 8) (S0 : natAbs (k' i) < 31) (K0 : (j : ℕ) → j < 8 → j ≢ i → k' j ≡ k j) where
+module _ (ts : List Float) (p c : ℕ) (P0 : p < 2) (T0 : (j : ℕ) → j < 8 → Target (tAt ts j)) (k k' : ℕ → ℤ) (i : ℕ) (I0 : i < 8)
+    (S0 : natAbs (k' i) < 31) (K0 : (j : ℕ) → j < 8 → j ≢ i → k' j ≡ k j) where
   abbrev o : ℕ
   o = oAt p c i
 
@@ -68,11 +68,14 @@ module _ (ts : List Float) (p c : ℕ) (P0 : p < 2) (T0 : (j : ℕ) → j < 8 �
       let t1 = term (member o (k' i)) (tAt ts i) (member-small o (k' i) (o-lt p c i P0) S0) (T0 i I0) in
       let top = sum-top (λ j. member (oAt p c j) (k j)) ts (λ j h. member-small (oAt p c j) (k j) (o-lt p c j P0) (C .small j h)) T0 8 (le-refl 8) in
       let a = near-less (C .near) (t0 .near) (lt-of-le-of-lt (cap1 (sumTo (sqs k) 8) (sqs k i) e (8 * TopT) TopT ES ET top (t0 .top) E0) (lit≤ tt)) in
-      let b = near-plus a (t1 .near) (lt-of-le-of-lt (cap2 (sumTo (sqs k) 8) (sqs k i) (sqs k' i) e (8 * TopT) TopT ES ET H top (t0 .top) (t1 .top) E0) (lit≤ tt)) in
+      let b = near-plus a (t1 .near)
+      (lt-of-le-of-lt (cap2 (sumTo (sqs k) 8) (sqs k i) (sqs k' i) e (8 * TopT) TopT ES ET H top (t0 .top) (t1 .top) E0) (lit≤ tt)) in
       record {
         small = small';
         shape = step-shape p c k k' i I0 K0 cost key (C .shape);
-        near = near-parts (sumTo (sqs k') 8) 0 b (parts (sumTo (sqs k) 8) (sqs k' i) (sumTo (sqs k') 8) (sqs k i) (sum-set (sqs k') (sqs k) i 8 I0 (λ j h d. ap (λ (z : ℤ). sqV (member (oAt p c j) z) (tAt ts j)) (K0 j h d))));
+        near = near-parts (sumTo (sqs k') 8) 0 b
+            (parts (sumTo (sqs k) 8) (sqs k' i) (sumTo (sqs k') 8) (sqs k i)
+            (sum-set (sqs k') (sqs k) i 8 I0 (λ j h d. ap (λ (z : ℤ). sqV (member (oAt p c j) z) (tAt ts j)) (K0 j h d))));
       }
     where
       cap1 : (s q e m n x y : ℕ) → s ≤ m → q ≤ n → e ≤ x → s + 0 + e + (q + 0 + y) ≤ m + x + (n + y)

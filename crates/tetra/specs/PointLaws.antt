@@ -68,7 +68,7 @@ even-times (suc p) m e = omega (arith, even-times p m e, suc-mul p m)
 pub drop-even : (a b : ℕ) → b % 2 ≡ 0 → (a + b) % 2 ≡ a % 2
 drop-even a b e = omega arith
 
-weight-same : (d w : ℕ) → weight d w ≡ code.weight d w
+pub weight-same : (d w : ℕ) → weight d w ≡ code.weight d w
 weight-same zero w = refl
 weight-same (suc d) w = ap (λ (n : ℕ). w % 2 + n) (weight-same d (w / 2))
 
