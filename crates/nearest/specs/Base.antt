@@ -7,10 +7,10 @@ use Prim.Native.Nat.{ℕ, zero, suc, _+_, _-_, _*_, _/_, _%_, _^_, _≤_, _<_}
 use native.Mathlib.Nat.{le-refl, le-trans, le-of-eq, le-of-lt, mul-le-mul-left, mul-add, mod-lt, zero-lt-suc}
 use native.Mathlib.Omega.{arith}
 use native.Mathlib.Decide.{ℕ-discrete}
-use lib.Dec.{T, eqb, eqb→eq, eqb-refl, lit≤}
+use borrow.Author.Tests.{eq-eqb, ne-eqb}
+use lib.Dec.{T, eqb, eqb→eq, lit≤}
 use lib.ListN.{getD}
-use lib.Signed.{ltZ}
-use lib.IntN.{ℤ, pos, ℤ-discrete, +ℤ-idr, +ℤ-one, -ℤ-one}
+use lib.IntN.{ℤ, ℤ-discrete, +ℤ-idr}
 use lib.Ieee.{Float, nan, lt}
 use Rattle.float.specs.Value.{posUnits, negUnits, U, one64}
 use Rattle.float.specs.Near.{Near}
@@ -22,24 +22,10 @@ use Rattle.search.specs.Record.{coordAt, noCoord, coordOf, slotK, row, shrinks,
 use Rattle.search.specs.Base.{slotOf, towardOf, parTo, worstTo}
 use Rattle.nearest.specs.Statement.{oddK, sumTo, parK}
 use Rattle.nearest.specs.Sums.{strong, stepped-up, sum-le, sum-same, sum-set, odd-le}
-use Rattle.nearest.specs.Ints.{gapK, far, odd-suc, odd-pred}
+use Rattle.nearest.specs.Ints.{gapK, far}
 use Rattle.nearest.specs.Coordinate.{Target, Rounds, E1, rounds}
 
 -- a Boolean test of numbers, decided
-pub eqb-no : (a b : ℕ) → a ≢ b → eqb a b ≡ false
-eqb-no a b h = go (eqb a b) (eqb→eq a b)
-  where
-    go : (t : Bool) → (T t → a ≡ b) → t ≡ false
-    go true k = absurd (h (k tt))
-    go false k = refl
-
-pub eqb-yes : (a : ℕ) → eqb a a ≡ true
-eqb-yes a = go (eqb a a) (eqb-refl a)
-  where
-    go : (t : Bool) → T t → t ≡ true
-    go true k = refl
-    go false k = absurd k
-
 abbrev pub sq : ℕ → ℕ
 sq x = x * x
 
@@ -56,6 +42,25 @@ repair : (base own other g0 g1 u4 G w e h : ℕ) → base + g0 * g0 ≡ own + g1
 repair base own other g0 g1 u4 G w e h a b c =
     let d : u4 * (g0 + (e + e)) ≡ u4 * g0 + (u4 * e + u4 * e) = mul-add u4 g0 (e + e) ∙ ap (λ (z : ℕ). u4 * g0 + z) (mul-add u4 e e) in
     omega arith
+
+-- the coordinate of largest regret is one of those seen
+pub worst-lt : (e : List Coord) (n : ℕ) → n ≤ 8 → worstTo e n < 8
+unfolding worstTo
+worst-lt e zero h = omega arith
+worst-lt e (suc n) h = go (lt (coordAt e (worstTo e n) .regret) (coordAt e n .regret)) (worst-lt e n (omega arith))
+  where
+    go : (b : Bool) → worstTo e n < 8 → cond b n (worstTo e n) < 8
+    go true k = h
+    go false k = k
+
+-- the parity of the roundings
+pub par-is : (e : List Coord) (n : ℕ) → parTo e n ≡ parK (λ j. coordAt e j .k0) n
+unfolding parTo sumTo
+par-is e zero = refl
+par-is e (suc n) = go (parTo e n) (sumTo (λ j. oddK (coordAt e j .k0)) n) (oddK (coordAt e n .k0)) (par-is e n)
+  where
+    go : (a b x : ℕ) → a ≡ b % 2 → (a + x) % 2 ≡ (b + x) % 2
+    go a b x h = omega arith
 
 module _ (ts : List Float) (p c : ℕ) (P0 : p < 2) (T0 : (j : ℕ) → j < 8 → Target (getD ts j nan)) where
   abbrev pub tJ : ℕ → Float
@@ -87,15 +92,6 @@ module _ (ts : List Float) (p c : ℕ) (P0 : p < 2) (T0 : (j : ℕ) → j < 8 �
   abbrev reg : ℕ → Float
   reg j = coordAt eR j .regret
 
-  pub worst-lt : (n : ℕ) → n ≤ 8 → worstTo eR n < 8
-  unfolding worstTo
-  worst-lt zero h = omega arith
-  worst-lt (suc n) h = go (lt (reg (worstTo eR n)) (reg n)) (worst-lt n (omega arith))
-    where
-      go : (b : Bool) → worstTo eR n < 8 → cond b n (worstTo eR n) < 8
-      go true k = h
-      go false k = k
-
   -- the largest regret is no smaller than any
   worst-most : (n : ℕ) → n ≤ 8 → (j : ℕ) → j < n → AtMost (reg j) (reg (worstTo eR n))
   unfolding worstTo
@@ -109,7 +105,7 @@ module _ (ts : List Float) (p c : ℕ) (P0 : p < 2) (T0 : (j : ℕ) → j < 8 �
       w = worstTo eR n
 
       w8 : worstTo eR n < 8
-      w8 = worst-lt n (omega arith)
+      w8 = worst-lt eR n (omega arith)
 
       fw : Near 4 (reg (worstTo eR n)) (g0 (worstTo eR n)) 0 E1
       fw = facts (worstTo eR n) w8 .regret
@@ -126,10 +122,13 @@ module _ (ts : List Float) (p c : ℕ) (P0 : p < 2) (T0 : (j : ℕ) → j < 8 �
       weak : (x y : Float) → Less x y → AtMost x y
       weak x y a = le-of-lt a
 
-      go : (j < n → AtMost (reg j) (reg (worstTo eR n))) → Dec (n ≡ j) → (b : Bool) → lt (reg (worstTo eR n)) (reg n) ≡ b → AtMost (reg j) (reg (cond b n (worstTo eR n)))
+      go : (j < n → AtMost (reg j) (reg (worstTo eR n))) → Dec (n ≡ j) → (b : Bool) → lt (reg (worstTo eR n)) (reg n) ≡ b
+          → AtMost (reg j) (reg (cond b n (worstTo eR n)))
       go r (yes e) true q = subst (λ (i : ℕ). AtMost (reg i) (reg n)) e (same (reg n))
-      go r (yes e) false q = subst (λ (i : ℕ). AtMost (reg i) (reg (worstTo eR n))) e (not-lt-is (reg (worstTo eR n)) (reg n) (fw .fit) (fn .fit) (fw .fin) (fn .fin) q)
-      go r (no d) true q = trans (reg j) (reg (worstTo eR n)) (reg n) (r (less d l)) (weak (reg (worstTo eR n)) (reg n) (lt-is (reg (worstTo eR n)) (reg n) (fw .fit) (fn .fit) (fw .fin) (fn .fin) (subst T (sym q) tt)))
+      go r (yes e) false q = subst (λ (i : ℕ). AtMost (reg i) (reg (worstTo eR n))) e
+          (not-lt-is (reg (worstTo eR n)) (reg n) (fw .fit) (fn .fit) (fw .fin) (fn .fin) q)
+      go r (no d) true q = trans (reg j) (reg (worstTo eR n)) (reg n) (r (less d l))
+          (weak (reg (worstTo eR n)) (reg n) (lt-is (reg (worstTo eR n)) (reg n) (fw .fit) (fn .fit) (fw .fin) (fn .fin) (subst T (sym q) tt)))
         where
           less : n ≢ j → j < suc n → j < n
           less d l = omega arith
@@ -144,19 +143,12 @@ module _ (ts : List Float) (p c : ℕ) (P0 : p < 2) (T0 : (j : ℕ) → j < 8 �
   worst-gap : (j : ℕ) → j < 8 → g0 j ≤ g0 jW + (E1 + E1)
   worst-gap j h =
       let a = facts j h .regret in
-      let b = facts jW (worst-lt 8 (le-refl 8)) .regret in
-      go (posUnits (reg j)) (negUnits (reg j)) (posUnits (reg jW)) (negUnits (reg jW)) (g0 j) (g0 jW) E1 (a .lo) (b .hi) (worst-most 8 (le-refl 8) j h)
+      let b = facts jW (worst-lt eR 8 (le-refl 8)) .regret in
+      go (posUnits (reg j)) (negUnits (reg j)) (posUnits (reg jW)) (negUnits (reg jW)) (g0 j) (g0 jW) E1 (a .lo) (b .hi)
+      (worst-most 8 (le-refl 8) j h)
     where
       go : (pj mj pw mw x y e : ℕ) → x + mj * 4 ≤ pj * 4 + 0 + e → pw * 4 + 0 ≤ y + mw * 4 + e → pj + mw ≤ pw + mj → x ≤ y + (e + e)
       go pj mj pw mw x y e h k l = omega arith
-
-  par-is : (n : ℕ) → parTo eR n ≡ parK kJ n
-  unfolding parTo sumTo
-  par-is zero = refl
-  par-is (suc n) = go (parTo eR n) (sumTo (λ j. oddK (kJ j)) n) (oddK (kJ n)) (par-is n)
-    where
-      go : (a b x : ℕ) → a ≡ b % 2 → (a + x) % 2 ≡ (b + x) % 2
-      go a b x h = omega arith
 
   -- one coordinate: no other whole number is nearer by more than the error
   wK : ℕ
@@ -173,11 +165,13 @@ module _ (ts : List Float) (p c : ℕ) (P0 : p < 2) (T0 : (j : ℕ) → j < 8 �
       go (yes e) = subst (λ (z : ℤ). sqK (oJ j) (kJ j) (tJ j) ≤ sqK (oJ j) z (tJ j) + wK) (sym e) (le-add (sqK (oJ j) (kJ j) (tJ j)) wK)
       go (no d) = round-best (g0 j) (gapK (oJ j) (k j) (tJ j)) U E1 (facts j h .close) (far (oJ j) (k j) (kJ j) (tJ j) d)
 
-  strong-one : (k : ℕ → ℤ) (j : ℕ) → j < 8 → kJ j ≢ k j → sqK (oJ j) (kJ j) (tJ j) + 4 * U * (4 * U) ≤ sqK (oJ j) (k j) (tJ j) + 2 * (4 * U * (g0 jW + (E1 + E1)))
+  strong-one : (k : ℕ → ℤ) (j : ℕ) → j < 8 → kJ j ≢ k j
+      → sqK (oJ j) (kJ j) (tJ j) + 4 * U * (4 * U) ≤ sqK (oJ j) (k j) (tJ j) + 2 * (4 * U * (g0 jW + (E1 + E1)))
   strong-one k j h d =
       let a = facts j h .close in
       let f = far (oJ j) (k j) (kJ j) (tJ j) (λ (e : k j ≡ kJ j). d (sym e)) in
-      let s = strong (4 * U - g0 j) (g0 j) (gapK (oJ j) (k j) (tJ j)) (4 * U) (split (4 * U) (g0 j) (2 * U + E1) a (lit≤ tt)) (under (4 * U) (g0 j) (gapK (oJ j) (k j) (tJ j)) f) in
+      let s = strong (4 * U - g0 j) (g0 j) (gapK (oJ j) (k j) (tJ j)) (4 * U) (split (4 * U) (g0 j) (2 * U + E1) a (lit≤ tt))
+      (under (4 * U) (g0 j) (gapK (oJ j) (k j) (tJ j)) f) in
       le-trans s (twice (sqK (oJ j) (k j) (tJ j)) (4 * U * g0 j) (4 * U * (g0 jW + (E1 + E1))) (mul-le-mul-left (4 * U) (worst-gap j h)))
     where
       split : (u g m : ℕ) → g ≤ m → m ≤ u → u ≡ u - g + g
@@ -204,7 +198,8 @@ module _ (ts : List Float) (p c : ℕ) (P0 : p < 2) (T0 : (j : ℕ) → j < 8 �
 
   base-plain : (k : ℕ → ℤ) → Nearest W3 kJ k
   unfolding wK
-  base-plain k = le-trans (sum-le (λ j. sqK (oJ j) (kJ j) (tJ j)) (λ j. sqK (oJ j) (k j) (tJ j)) wK 8 (plain-one k)) (more (sumTo (λ j. sqK (oJ j) (k j) (tJ j)) 8) (8 * wK) W3 (lit≤ tt))
+  base-plain k = le-trans (sum-le (λ j. sqK (oJ j) (kJ j) (tJ j)) (λ j. sqK (oJ j) (k j) (tJ j)) wK 8 (plain-one k))
+      (more (sumTo (λ j. sqK (oJ j) (k j) (tJ j)) 8) (8 * wK) W3 (lit≤ tt))
     where
       more : (a b c : ℕ) → b ≤ c → a + b ≤ a + c
       more a b c h = omega arith
@@ -214,10 +209,10 @@ module _ (ts : List Float) (p c : ℕ) (P0 : p < 2) (T0 : (j : ℕ) → j < 8 �
   sK j = slotK (kJ j) (slotOf jW (towardOf (coordAt eR jW .dir)) j)
 
   stepped-at : sK jW ≡ slotK (kJ jW) (towardOf (coordAt eR jW .dir))
-  stepped-at = ap (λ (b : Bool). slotK (kJ jW) (cond b (towardOf (coordAt eR jW .dir)) 2)) (eqb-yes jW)
+  stepped-at = ap (λ (b : Bool). slotK (kJ jW) (cond b (towardOf (coordAt eR jW .dir)) 2)) (eq-eqb jW jW refl)
 
   stepped-off : (j : ℕ) → j ≢ jW → sK j ≡ kJ j
-  stepped-off j d = ap (λ (b : Bool). slotK (kJ j) (cond b (towardOf (coordAt eR jW .dir)) 2)) (eqb-no j jW d) ∙ slot2 (kJ j)
+  stepped-off j d = ap (λ (b : Bool). slotK (kJ j) (cond b (towardOf (coordAt eR jW .dir)) 2)) (ne-eqb j jW d) ∙ slot2 (kJ j)
 
   abbrev terms : (ℕ → ℤ) → ℕ → ℕ
   terms k j = sqK (oJ j) (k j) (tJ j)
@@ -225,7 +220,7 @@ module _ (ts : List Float) (p c : ℕ) (P0 : p < 2) (T0 : (j : ℕ) → j < 8 �
   base-stepped : (k : ℕ → ℤ) → parK kJ 8 ≢ parK k 8 → Nearest W3 sK k
   unfolding wK
   base-stepped k d =
-      let w8 = worst-lt 8 (le-refl 8) in
+      let w8 = worst-lt eR 8 (le-refl 8) in
       let R = facts jW w8 in
       let own = terms kJ in
       let oth = terms k in
@@ -233,10 +228,12 @@ module _ (ts : List Float) (p c : ℕ) (P0 : p < 2) (T0 : (j : ℕ) → j < 8 �
       let g1 = gapK (oJ jW) (slotK (kJ jW) (towardOf (coordAt eR jW .dir))) (tJ jW) in
       let a = sum-set bas own jW 8 w8 (λ j l m. ap (λ (z : ℤ). sqK (oJ j) z (tJ j)) (stepped-off j m)) in
       let a' : sumTo bas 8 + g0 jW * g0 jW ≡ sumTo own 8 + g1 * g1 = a ∙ ap (λ (z : ℤ). sumTo own 8 + sqK (oJ jW) z (tJ jW)) stepped-at in
-      let b = stepped-up (4 * U - g0 jW) (g0 jW) g1 (4 * U) E1 (split (4 * U) (g0 jW) (2 * U + E1) (R .close) (lit≤ tt)) (under (4 * U) (g0 jW) g1 E1 (R .toward)) in
+      let b = stepped-up (4 * U - g0 jW) (g0 jW) g1 (4 * U) E1 (split (4 * U) (g0 jW) (2 * U + E1) (R .close) (lit≤ tt))
+      (under (4 * U) (g0 jW) g1 E1 (R .toward)) in
       let c = odd-le own oth kJ k wK (4 * U * (4 * U)) (2 * (4 * U * (g0 jW + (E1 + E1)))) 8 d (plain-one k) (strong-one k) in
       let r = repair (sumTo bas 8) (sumTo own 8) (sumTo oth 8) (g0 jW) g1 (4 * U) 0 (8 * wK) E1 (4 * U - g0 jW) a' b c in
-      le-trans r (more (sumTo oth 8) (4 * (4 * U * E1)) (8 * wK) (E1 * (4 * U - g0 jW)) (E1 * (4 * U)) (E1 * E1) W3 (mul-le-mul-left E1 (le-sub (4 * U) (g0 jW))) (lit≤ tt))
+      le-trans r (more (sumTo oth 8) (4 * (4 * U * E1)) (8 * wK) (E1 * (4 * U - g0 jW)) (E1 * (4 * U)) (E1 * E1) W3
+      (mul-le-mul-left E1 (le-sub (4 * U) (g0 jW))) (lit≤ tt))
     where
       split : (u g m : ℕ) → g ≤ m → m ≤ u → u ≡ u - g + g
       split u g m h k = omega arith
@@ -261,33 +258,13 @@ module _ (ts : List Float) (p c : ℕ) (P0 : p < 2) (T0 : (j : ℕ) → j < 8 �
           at true = slot2 (kJ j)
           at false = slot2 (kJ j)
 
-      go : (b : Bool) → (T b → parTo eR 8 ≡ r) → eqb (parTo eR 8) r ≡ b → sumTo (λ j. sqK (oJ j) (slotK (kJ j) (slotOf jW (cond b 2 (towardOf (coordAt eR jW .dir))) j)) (tJ j)) 8 ≤ sumTo (λ j. sqK (oJ j) (k j) (tJ j)) 8 + W3
-      go true e q = le-trans (le-of-eq (sum-same (λ j. sqK (oJ j) (slotK (kJ j) (slotOf jW 2 j)) (tJ j)) (λ j. sqK (oJ j) (kJ j) (tJ j)) 8 (λ j l. ap (λ (z : ℤ). sqK (oJ j) z (tJ j)) (off j)))) (base-plain k)
-      go false e q = base-stepped k (λ (x : parK kJ 8 ≡ parK k 8). no-eq (parTo eR 8) r q (par-is 8 ∙ x ∙ h))
+      go : (b : Bool) → (T b → parTo eR 8 ≡ r) → eqb (parTo eR 8) r ≡ b
+          → sumTo (λ j. sqK (oJ j) (slotK (kJ j) (slotOf jW (cond b 2 (towardOf (coordAt eR jW .dir))) j)) (tJ j)) 8 ≤ sumTo
+          (λ j. sqK (oJ j) (k j) (tJ j)) 8 + W3
+      go true e q = le-trans (le-of-eq
+          (sum-same (λ j. sqK (oJ j) (slotK (kJ j) (slotOf jW 2 j)) (tJ j)) (λ j. sqK (oJ j) (kJ j) (tJ j)) 8
+          (λ j l. ap (λ (z : ℤ). sqK (oJ j) z (tJ j)) (off j)))) (base-plain k)
+      go false e q = base-stepped k (λ (x : parK kJ 8 ≡ parK k 8). no-eq (parTo eR 8) r q (par-is eR 8 ∙ x ∙ h))
         where
           no-eq : (a b : ℕ) → eqb a b ≡ false → a ≢ b
-          no-eq a b q e = subst T (sym (subst (λ (z : ℕ). eqb a z ≡ true) e (eqb-yes a)) ∙ q) tt
-
-  -- the base has the class it is for
-  pub base-class : (r : ℕ) → r < 2 → parK (bK r) 8 ≡ r
-  base-class r h = go (eqb (parTo eR 8) r) (eqb→eq (parTo eR 8) r) refl
-    where
-      off : (j : ℕ) → slotK (kJ j) (slotOf jW 2 j) ≡ kJ j
-      off j = at (eqb j jW)
-        where
-          at : (b : Bool) → slotK (kJ j) (cond b 2 2) ≡ kJ j
-          at true = slot2 (kJ j)
-          at false = slot2 (kJ j)
-
-      turns : (b : Bool) → oddK (slotK (kJ jW) (cond b 3 1)) + oddK (kJ jW) ≡ 1
-      turns true = ap (λ (z : ℤ). oddK z + oddK (kJ jW)) (+ℤ-one (kJ jW)) ∙ odd-suc (kJ jW)
-      turns false = ap (λ (z : ℤ). oddK z + oddK (kJ jW)) (-ℤ-one (kJ jW)) ∙ odd-pred (kJ jW)
-
-      other : (f g x y a r : ℕ) → f + y ≡ g + x → x + y ≡ 1 → a ≡ g % 2 → a ≢ r → r < 2 → f % 2 ≡ r
-      other f g x y a r h k l m n = omega arith
-
-      go : (b : Bool) → (T b → parTo eR 8 ≡ r) → eqb (parTo eR 8) r ≡ b → parK (λ j. slotK (kJ j) (slotOf jW (cond b 2 (towardOf (coordAt eR jW .dir))) j)) 8 ≡ r
-      go true e q = ap (λ (z : ℕ). z % 2) (sum-same (λ j. oddK (slotK (kJ j) (slotOf jW 2 j))) (λ j. oddK (kJ j)) 8 (λ j l. ap oddK (off j))) ∙ sym (par-is 8) ∙ e tt
-      go false e q = other (sumTo (λ j. oddK (sK j)) 8) (sumTo (λ j. oddK (kJ j)) 8) (oddK (sK jW)) (oddK (kJ jW)) (parTo eR 8) r
-          (sum-set (λ j. oddK (sK j)) (λ j. oddK (kJ j)) jW 8 (worst-lt 8 (le-refl 8)) (λ j l m. ap oddK (stepped-off j m)))
-          (ap (λ (z : ℤ). oddK z + oddK (kJ jW)) stepped-at ∙ turns (ltZ (pos 0) (coordAt eR jW .dir))) (par-is 8) (λ (x : parTo eR 8 ≡ r). subst T (sym (subst (λ (z : ℕ). eqb (parTo eR 8) z ≡ true) x (eqb-yes (parTo eR 8))) ∙ q) tt) h
+          no-eq a b q e = subst T (sym (eq-eqb a _ e) ∙ q) tt

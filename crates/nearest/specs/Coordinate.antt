@@ -47,7 +47,8 @@ int-mg k m h l =
     (mul-le-mul-right U (le-trans (le-of-eq (sym (abs-parts k))) h))
 
 -- k is within 16 of zero, by its distance from a target below 32
-k-small : (pk nk p n u e : ℕ) → p + n ≤ 35 * u → e ≤ u → p + nk * u * 4 ≤ pk * u * 4 + n + (2 * u + e) → pk * u * 4 + n ≤ p + nk * u * 4 + (2 * u + e) → (pk ≡ 0) ⊎ (nk ≡ 0) → (pk + nk) * u ≤ 10 * u
+k-small : (pk nk p n u e : ℕ) → p + n ≤ 35 * u → e ≤ u → p + nk * u * 4 ≤ pk * u * 4 + n + (2 * u + e)
+    → pk * u * 4 + n ≤ p + nk * u * 4 + (2 * u + e) → (pk ≡ 0) ⊎ (nk ≡ 0) → (pk + nk) * u ≤ 10 * u
 k-small pk nk p n u e s l a b (inl z) =
     let q : pk * u ≡ 0 = ap (λ (z : ℕ). z * u) z ∙ zero-mul u in
     let r : (pk + nk) * u ≡ pk * u + nk * u = add-mul pk nk u in
@@ -96,7 +97,9 @@ module _ (t : Float) (o : ℕ) (T0 : Target t) (O0 : o < 4) where
 
   -- |t - o| in units
   span : (posUnits t + negUnits oF) + (negUnits t + posUnits oF) ≤ 35 * U
-  span = le-trans (le-of-eq (regroup (posUnits t) (negUnits oF) (negUnits t) (posUnits oF) (magUnits t) (magUnits oF) (mag-parts t) (mag-parts oF))) (le-trans (le-of-lt (lt-of-lt-of-le (sum-lt (magUnits t) (magUnits oF) (2 ^ 1079) (3 * U) (T0 .small) o-mg) (le-refl (2 ^ 1079 + 3 * U)))) (lit≤ tt))
+  span = le-trans (le-of-eq (regroup (posUnits t) (negUnits oF) (negUnits t) (posUnits oF) (magUnits t) (magUnits oF) (mag-parts t)
+      (mag-parts oF))) (le-trans (le-of-lt
+      (lt-of-lt-of-le (sum-lt (magUnits t) (magUnits oF) (2 ^ 1079) (3 * U) (T0 .small) o-mg) (le-refl (2 ^ 1079 + 3 * U)))) (lit≤ tt))
     where
       sum-lt : (a b c d : ℕ) → a < c → b ≤ d → a + b < c + d
       sum-lt a b c d h k = omega arith
@@ -108,7 +111,8 @@ module _ (t : Float) (o : ℕ) (T0 : Target t) (O0 : o < 4) where
   gap-span p n m h = omega arith
 
   d-mg : magUnits dF < 2 ^ 1080 * 4
-  d-mg = lt-of-le-of-lt (le-trans (near-mag-plain d-near) (add-le (gap (posUnits t + negUnits oF) (negUnits t + posUnits oF)) (2 ^ 1026) (35 * U) (gap-span _ _ (35 * U) span))) (lit≤ tt)
+  d-mg = lt-of-le-of-lt (le-trans (near-mag-plain d-near)
+      (add-le (gap (posUnits t + negUnits oF) (negUnits t + posUnits oF)) (2 ^ 1026) (35 * U) (gap-span _ _ (35 * U) span))) (lit≤ tt)
     where
       add-le : (a b c : ℕ) → a ≤ c → a + b ≤ c + b
       add-le a b c h = omega arith
@@ -136,7 +140,9 @@ module _ (t : Float) (o : ℕ) (T0 : Target t) (O0 : o < 4) where
 
   k-abs : natAbs kZ < 16
   k-abs = let w = round-close z-near' in
-      lt-of-mul-lt-mul-right U (lt-of-le-of-lt (le-trans (le-of-eq (ap (λ (z : ℕ). z * U) (abs-parts kZ))) (k-small (posPart kZ) (negPart kZ) (posUnits t + 0) (negUnits t + o * U) U e5 span' (lit≤ tt) (w .0) (w .1) (one-part kZ))) (lit≤ tt))
+      lt-of-mul-lt-mul-right U (lt-of-le-of-lt
+      (le-trans (le-of-eq (ap (λ (z : ℕ). z * U) (abs-parts kZ)))
+      (k-small (posPart kZ) (negPart kZ) (posUnits t + 0) (negUnits t + o * U) U e5 span' (lit≤ tt) (w .0) (w .1) (one-part kZ))) (lit≤ tt))
 
   abbrev kF : Float
   kF = ofInt binary64 kZ
@@ -146,7 +152,8 @@ module _ (t : Float) (o : ℕ) (T0 : Target t) (O0 : o < 4) where
 
   close-of : gapK o kZ t ≤ 2 * U + e5
   close-of = let w = round-close z-near' in
-      le-trans (le-of-eq (sym (gap-back o kZ t))) (bounded (posUnits t + 0) (negUnits t + o * U) (negPart kZ * U * 4) (posPart kZ * U * 4) (2 * U + e5) (w .0) (w .1))
+      le-trans (le-of-eq (sym (gap-back o kZ t)))
+      (bounded (posUnits t + 0) (negUnits t + o * U) (negPart kZ * U * 4) (posPart kZ * U * 4) (2 * U + e5) (w .0) (w .1))
     where
       bounded : (p n a b m : ℕ) → p + a ≤ b + n + m → b + n ≤ p + a + m → gap (p + a) (n + b) ≤ m
       bounded p n a b m h k = omega arith
@@ -154,7 +161,8 @@ module _ (t : Float) (o : ℕ) (T0 : Target t) (O0 : o < 4) where
   z-mg : magUnits zF + magUnits kF < 2 ^ 1080
   z-mg =
       let c : magUnits zF * 4 ≤ gap (posUnits t + 0) (negUnits t + o * U) + e5 = near-mag z-near' in
-      lt-of-le-of-lt (sum-le2 (magUnits zF) (magUnits kF) (gap (posUnits t + 0) (negUnits t + o * U)) e5 (35 * U) (15 * U) c (gap-span _ _ (35 * U) span') (int-mg kZ 15 (pred-le k-abs) (lit≤ tt))) (lit≤ tt)
+      lt-of-le-of-lt (sum-le2 (magUnits zF) (magUnits kF) (gap (posUnits t + 0) (negUnits t + o * U)) e5 (35 * U) (15 * U) c
+      (gap-span _ _ (35 * U) span') (int-mg kZ 15 (pred-le k-abs) (lit≤ tt))) (lit≤ tt)
     where
       pred-le : {a : ℕ} → a < 16 → a ≤ 15
       pred-le h = omega arith
@@ -177,7 +185,8 @@ module _ (t : Float) (o : ℕ) (T0 : Target t) (O0 : o < 4) where
       le-trans (le-of-eq (ap₂ (λ (a b : ℕ). a + b) (sym (gap-back o k1 t)) (sym (gap-back o kZ t))))
       (le-trans (up (posUnits t + 0) (negUnits t + o * U) (posPart kZ * U * 4) (negPart kZ * U * 4) (posPart k1 * U * 4) (negPart k1 * U * 4) U e5
       (times (posPart k1) (negPart kZ) (posPart kZ) (negPart k1) U (add-parts kZ (pos 1)))
-      (below (posUnits kF) (negUnits kF) (posUnits zF) (negUnits zF) (posPart kZ * U) (negPart kZ * U) (posUnits t + 0) (negUnits t + o * U) e5 (k-whole .pos-is) (k-whole .neg-is) l (z-near' .hi))
+      (below (posUnits kF) (negUnits kF) (posUnits zF) (negUnits zF) (posPart kZ * U) (negPart kZ * U) (posUnits t + 0)
+      (negUnits t + o * U) e5 (k-whole .pos-is) (k-whole .neg-is) l (z-near' .hi))
       (le-trans (le-of-eq (gap-back o kZ t)) close-of)) (fold-e U e5 E1 (lit≤ tt)))
     where
       below : (a b c d x y p n e : ℕ) → a ≡ x → b ≡ y → a + d < c + b → c * 4 + n ≤ p + d * 4 + e → n + x * 4 ≤ p + y * 4 + e
@@ -193,7 +202,8 @@ module _ (t : Float) (o : ℕ) (T0 : Target t) (O0 : o < 4) where
           tidy : p1 + (n + 0) ≡ p + 1 + n1 → p1 + n ≡ p + 1 + n1
           tidy h = omega arith
 
-      up : (p n a b a1 b1 u e : ℕ) → a1 + b ≡ a + 4 * u + b1 → n + a ≤ p + b + e → gap (p + b) (n + a) ≤ 2 * u + e → gap (p + b1) (n + a1) + gap (p + b) (n + a) ≤ 4 * u + (e + e)
+      up : (p n a b a1 b1 u e : ℕ) → a1 + b ≡ a + 4 * u + b1 → n + a ≤ p + b + e → gap (p + b) (n + a) ≤ 2 * u + e
+          → gap (p + b1) (n + a1) + gap (p + b) (n + a) ≤ 4 * u + (e + e)
       up p n a b a1 b1 u e h k l = omega arith
 
       fold-e : (u e m : ℕ) → e + e ≤ m → 4 * u + (e + e) ≤ 4 * u + m
@@ -204,7 +214,8 @@ module _ (t : Float) (o : ℕ) (T0 : Target t) (O0 : o < 4) where
       le-trans (le-of-eq (ap₂ (λ (a b : ℕ). a + b) (sym (gap-back o k1 t)) (sym (gap-back o kZ t))))
       (le-trans (down (posUnits t + 0) (negUnits t + o * U) (posPart kZ * U * 4) (negPart kZ * U * 4) (posPart k1 * U * 4) (negPart k1 * U * 4) U e5
       (times (posPart k1) (negPart kZ) (posPart kZ) (negPart k1) U (add-parts kZ (negsuc 0)))
-      (above (posUnits kF) (negUnits kF) (posUnits zF) (negUnits zF) (posPart kZ * U) (negPart kZ * U) (posUnits t + 0) (negUnits t + o * U) e5 (k-whole .pos-is) (k-whole .neg-is) l (z-near' .lo))
+      (above (posUnits kF) (negUnits kF) (posUnits zF) (negUnits zF) (posPart kZ * U) (negPart kZ * U) (posUnits t + 0)
+      (negUnits t + o * U) e5 (k-whole .pos-is) (k-whole .neg-is) l (z-near' .lo))
       (le-trans (le-of-eq (gap-back o kZ t)) close-of)) (fold-e U e5 E1 (lit≤ tt)))
     where
       above : (a b c d x y p n e : ℕ) → a ≡ x → b ≡ y → c + b ≤ a + d → p + d * 4 ≤ c * 4 + n + e → p + y * 4 ≤ n + x * 4 + e
@@ -220,14 +231,20 @@ module _ (t : Float) (o : ℕ) (T0 : Target t) (O0 : o < 4) where
           tidy : p1 + (n + 1) ≡ p + 0 + n1 → p1 + n + 1 ≡ p + n1
           tidy h = omega arith
 
-      down : (p n a b a1 b1 u e : ℕ) → a1 + b + 4 * u ≡ a + b1 → p + b ≤ n + a + e → gap (p + b) (n + a) ≤ 2 * u + e → gap (p + b1) (n + a1) + gap (p + b) (n + a) ≤ 4 * u + (e + e)
+      down : (p n a b a1 b1 u e : ℕ) → a1 + b + 4 * u ≡ a + b1 → p + b ≤ n + a + e → gap (p + b) (n + a) ≤ 2 * u + e
+          → gap (p + b1) (n + a1) + gap (p + b) (n + a) ≤ 4 * u + (e + e)
       down p n a b a1 b1 u e h k l = omega arith
 
       fold-e : (u e m : ℕ) → e + e ≤ m → 4 * u + (e + e) ≤ 4 * u + m
       fold-e u e m h = omega arith
 
   rounds-from : Rounds t o (coordFrom t o zF kZ)
-  rounds-from = record { close = le-trans close-of (more (2 * U) e5 E1 (lit≤ tt)); toward = toward-of (lt kF zF) refl; regret = regret-of; small = k-abs }
+  rounds-from = record {
+    close = le-trans close-of (more (2 * U) e5 E1 (lit≤ tt));
+    toward = toward-of (lt kF zF) refl;
+    regret = regret-of;
+    small = k-abs;
+  }
     where
       more : (a b c : ℕ) → b ≤ c → a + b ≤ a + c
       more a b c h = omega arith
@@ -235,7 +252,8 @@ module _ (t : Float) (o : ℕ) (T0 : Target t) (O0 : o < 4) where
   -- the clamp changes nothing
   z-small : magUnits zF ≤ 1000000 * U
   z-small =
-      le-trans (quarter (magUnits zF) (gap (posUnits t + 0) (negUnits t + o * U)) e5 (35 * U) (near-mag z-near') (gap-span _ _ (35 * U) span')) (lit≤ tt)
+      le-trans (quarter (magUnits zF) (gap (posUnits t + 0) (negUnits t + o * U)) e5 (35 * U) (near-mag z-near')
+      (gap-span _ _ (35 * U) span')) (lit≤ tt)
     where
       quarter : (z g e m : ℕ) → z * 4 ≤ g + e → g ≤ m → z ≤ m + e
       quarter z g e m h k = omega arith

@@ -65,7 +65,8 @@ module _ (P : ℕ → Type 0) (p r : ℕ) (ts : List Float) where
   better-final : (e : Entry) (b : Best) (c : ℕ) → P c → Final P p r ts e → SoundB p c r ts b → Final P p r ts (better e b c)
   better-final e b c h f s = go (b .met) (lt (b .d) (e .value)) s
     where
-      go : (m l : Bool) → (m ≡ true → Stands p c r ts (b .key) (b .d)) → Final P p r ts (cond (m && l) (record { value = b .d; exact = true; byte = c; key = b .key }) e)
+      go : (m l : Bool) → (m ≡ true → Stands p c r ts (b .key) (b .d))
+          → Final P p r ts (cond (m && l) (record { value = b .d; exact = true; byte = c; key = b .key }) e)
       go true true s = inr (record { byte = h; stands = s refl })
       go true false s = f
       go false l s = f
@@ -73,7 +74,9 @@ module _ (P : ℕ → Type 0) (p r : ℕ) (ts : List Float) where
   with-final : (s : Start) (b : Best) (c : ℕ) → P c → Final P p r ts (s .ent) → SoundB p c r ts b → Final P p r ts (withBase s b c .ent)
   with-final s b c h f q = go (b .met)
     where
-      go : (m : Bool) → Final P p r ts ((cond {A = Start} m (record { ent = better (s .ent) b c; lb = s .lb; loose = s .loose }) (record { ent = s .ent; lb = cond (lt (b .d) (s .lb)) (b .d) (s .lb); loose = true })) .ent)
+      go : (m : Bool) → Final P p r ts
+          ((cond {A = Start} m (record { ent = better (s .ent) b c; lb = s .lb; loose = s .loose })
+          (record { ent = s .ent; lb = cond (lt (b .d) (s .lb)) (b .d) (s .lb); loose = true })) .ent)
       go true = better-final (s .ent) b c h f q
       go false = f
 
@@ -87,7 +90,8 @@ module _ (P : ℕ → Type 0) (p r : ℕ) (ts : List Float) where
   pub closed-final : (e : Entry) (b : Bool) (new : Entry) → Sound P p r ts e → Final P p r ts new → Final P p r ts (closed e b new)
   closed-final e b new s f = go (e .exact) s
     where
-      go : (m : Bool) → (m ≡ true → Final P p r ts e) → Final P p r ts (cond m e (cond b new (record { value = infinity; exact = true; byte = 0; key = 0 })))
+      go : (m : Bool) → (m ≡ true → Final P p r ts e)
+          → Final P p r ts (cond m e (cond b new (record { value = infinity; exact = true; byte = 0; key = 0 })))
       go true k = k refl
       go false k = at b
         where
@@ -96,7 +100,8 @@ module _ (P : ℕ → Type 0) (p r : ℕ) (ts : List Float) where
           at false = inl refl
 
 pub closed-mine : (e : Entry) (b : Bool) (new : Entry) {B : ℕ} → Mine e B → Mine (closed e b new) B
-closed-mine e b new {B} m = subst (λ (x : Bool). Mine (cond x e (cond b new (record { value = infinity; exact = true; byte = 0; key = 0 }))) B) (sym (m .exact)) m
+closed-mine e b new {B} m = subst
+    (λ (x : Bool). Mine (cond x e (cond b new (record { value = infinity; exact = true; byte = 0; key = 0 }))) B) (sym (m .exact)) m
 
 -- ---- an end state
 abbrev pub EndByte : Tables → ℕ → ℕ → ℕ → Type 0
@@ -116,9 +121,11 @@ module _ (g : Tables) (u : Rule) (ts : List Float) (kind p : ℕ) (F : EndFacts 
   pub resolve-final : Final (EndByte g kind st) p r ts (endResolve g u ts kind p r st)
   unfolding endResolve
   resolve-final =
-      better-final (EndByte g kind st) p r ts (better (fallback g ts kind p r st) (solve ts p (endByte g kind st 0) r (classOf g r) (u .ends)) (endByte g kind st 0))
+      better-final (EndByte g kind st) p r ts
+      (better (fallback g ts kind p r st) (solve ts p (endByte g kind st 0) r (classOf g r) (u .ends)) (endByte g kind st 0))
       (solve ts p (endByte g kind st 1) r (classOf g r) (u .ends)) (endByte g kind st 1) (1, omega arith, refl)
-      (better-final (EndByte g kind st) p r ts (fallback g ts kind p r st) (solve ts p (endByte g kind st 0) r (classOf g r) (u .ends)) (endByte g kind st 0) (0, omega arith, refl)
+      (better-final (EndByte g kind st) p r ts (fallback g ts kind p r st) (solve ts p (endByte g kind st 0) r (classOf g r) (u .ends))
+      (endByte g kind st 0) (0, omega arith, refl)
       (inr (F .fb r st R0 S0)) (F .sol (endByte g kind st 0) r R0))
       (F .sol (endByte g kind st 1) r R0)
 
@@ -138,11 +145,13 @@ module _ (g : Tables) (u : Rule) (ts : List Float) (kind p : ℕ) (F : EndFacts 
   st2 = withBase st1 base1 (endByte g kind st 1)
 
   final1 : Final (EndByte g kind st) p r ts (st1 .ent)
-  final1 = with-final (EndByte g kind st) p r ts st0 base0 (endByte g kind st 0) (0, omega arith, refl) (inr (F .fb r st R0 S0)) (F .bas (endByte g kind st 0) r R0)
+  final1 = with-final (EndByte g kind st) p r ts st0 base0 (endByte g kind st 0) (0, omega arith, refl) (inr (F .fb r st R0 S0))
+      (F .bas (endByte g kind st 0) r R0)
 
   pub start-sound : Sound (EndByte g kind st) p r ts (endStart g ts kind p r st)
   unfolding endStart
-  start-sound = settle-sound (EndByte g kind st) p r ts st2 (with-final (EndByte g kind st) p r ts st1 base1 (endByte g kind st 1) (1, omega arith, refl) final1 (F .bas (endByte g kind st 1) r R0))
+  start-sound = settle-sound (EndByte g kind st) p r ts st2
+      (with-final (EndByte g kind st) p r ts st1 base1 (endByte g kind st 1) (1, omega arith, refl) final1 (F .bas (endByte g kind st 1) r R0))
 
 -- ---- the start at an end: two bases, each of which is a member if it is cheap, and one of which is cheap
 pub record Open (s : Start) (B : ℕ) : Type 0 where
@@ -175,7 +184,9 @@ better-old e b c {B} u n = go (b .met) (lt (b .d) (e .value)) refl
     go false l q = u
 
 better-new : (e : Entry) (b : Best) (c : ℕ) {B : ℕ} → Num (e .value) → b .met ≡ true → Under (b .d) B → Under (better e b c .value) B
-better-new e b c {B} n m u = subst (λ (x : Bool). Under ((cond (x && (lt (b .d) (e .value))) (record { value = b .d; exact = true; byte = c; key = b .key }) e) .value) B) (sym m) (go (lt (b .d) (e .value)) refl)
+better-new e b c {B} n m u = subst
+    (λ (x : Bool). Under ((cond (x && (lt (b .d) (e .value))) (record { value = b .d; exact = true; byte = c; key = b .key }) e) .value) B)
+    (sym m) (go (lt (b .d) (e .value)) refl)
   where
     go : (l : Bool) → lt (b .d) (e .value) ≡ l → Under ((cond l (record { value = b .d; exact = true; byte = c; key = b .key }) e) .value) B
     go true q = u
@@ -184,7 +195,9 @@ better-new e b c {B} n m u = subst (λ (x : Bool). Under ((cond (x && (lt (b .d)
 open-base : (s : Start) (b : Best) (c : ℕ) {B : ℕ} → Open s B → Num (b .d) → (Under (b .d) B → b .met ≡ true) → Open (withBase s b c) B
 open-base s b c {B} o n k = go (b .met) k
   where
-    go : (m : Bool) → (Under (b .d) B → m ≡ true) → Open (cond m (record { ent = better (s .ent) b c; lb = s .lb; loose = s .loose }) (record { ent = s .ent; lb = cond (lt (b .d) (s .lb)) (b .d) (s .lb); loose = true })) B
+    go : (m : Bool) → (Under (b .d) B → m ≡ true)
+        → Open (cond m (record { ent = better (s .ent) b c; lb = s .lb; loose = s .loose })
+        (record { ent = s .ent; lb = cond (lt (b .d) (s .lb)) (b .d) (s .lb); loose = true })) B
     go true k = record { exact = better-exact (s .ent) b c (o .exact); num = better-num (s .ent) b c (o .num) n; lb-num = o .lb-num; high = o .high }
     go false k = record { exact = o .exact; num = o .num; lb-num = at (lt (b .d) (s .lb)); high = hi (lt (b .d) (s .lb)) }
       where
@@ -199,17 +212,22 @@ open-base s b c {B} o n k = go (b .met) k
 cheap-old : (s : Start) (b : Best) (c : ℕ) {B : ℕ} → Under (s .ent .value) B → Num (b .d) → Under (withBase s b c .ent .value) B
 cheap-old s b c {B} u n = go (b .met)
   where
-    go : (m : Bool) → Under ((cond {A = Start} m (record { ent = better (s .ent) b c; lb = s .lb; loose = s .loose }) (record { ent = s .ent; lb = cond (lt (b .d) (s .lb)) (b .d) (s .lb); loose = true })) .ent .value) B
+    go : (m : Bool) → Under ((cond {A = Start} m (record { ent = better (s .ent) b c; lb = s .lb; loose = s .loose })
+        (record { ent = s .ent; lb = cond (lt (b .d) (s .lb)) (b .d) (s .lb); loose = true })) .ent .value) B
     go true = better-old (s .ent) b c u n
     go false = u
 
 cheap-new : (s : Start) (b : Best) (c : ℕ) {B : ℕ} → Num (s .ent .value) → b .met ≡ true → Under (b .d) B → Under (withBase s b c .ent .value) B
-cheap-new s b c {B} n m u = subst (λ (x : Bool). Under ((cond {A = Start} x (record { ent = better (s .ent) b c; lb = s .lb; loose = s .loose }) (record { ent = s .ent; lb = cond (lt (b .d) (s .lb)) (b .d) (s .lb); loose = true })) .ent .value) B) (sym m) (better-new (s .ent) b c n m u)
+cheap-new s b c {B} n m u = subst
+    (λ (x : Bool). Under ((cond {A = Start} x (record { ent = better (s .ent) b c; lb = s .lb; loose = s .loose })
+    (record { ent = s .ent; lb = cond (lt (b .d) (s .lb)) (b .d) (s .lb); loose = true })) .ent .value) B) (sym m)
+    (better-new (s .ent) b c n m u)
 
 settle-mine : (s : Start) {B : ℕ} → Open s B → Under (s .ent .value) B → Mine (settle s) B
 settle-mine s {B} o u = go (s .loose) (lt (s .lb) (s .ent .value)) refl
   where
-    go : (m l : Bool) → lt (s .lb) (s .ent .value) ≡ l → Mine (cond (m && l) (record { value = s .lb; exact = false; byte = s .ent .byte; key = s .ent .key }) (s .ent)) B
+    go : (m l : Bool) → lt (s .lb) (s .ent .value) ≡ l
+        → Mine (cond (m && l) (record { value = s .lb; exact = false; byte = s .ent .byte; key = s .ent .key }) (s .ent)) B
     go true true q = absurd (o .high (under-lt (s .lb) (s .ent .value) (o .lb-num) u q))
     go true false q = record { exact = o .exact; under = u }
     go false l q = record { exact = o .exact; under = u }
@@ -222,7 +240,8 @@ abbrev startAt : Tables → List Float → ℕ → ℕ → ℕ → ℕ → Start
 startAt g ts kind p r st = record { ent = fallback g ts kind p r st; lb = infinity; loose = false }
 
 module _ (g : Tables) (ts : List Float) (kind p r st : ℕ) (B : ℕ) (f : Num (fallback g ts kind p r st .value))
-    (n : (a : ℕ) → a < 2 → Num (baseAt g ts kind p r st a .d)) (k : (a : ℕ) → a < 2 → Under (baseAt g ts kind p r st a .d) B → baseAt g ts kind p r st a .met ≡ true) where
+    (n : (a : ℕ) → a < 2 → Num (baseAt g ts kind p r st a .d))
+    (k : (a : ℕ) → a < 2 → Under (baseAt g ts kind p r st a .d) B → baseAt g ts kind p r st a .met ≡ true) where
   abbrev one : Start
   one = withBase (startAt g ts kind p r st) (baseAt g ts kind p r st 0) (endByte g kind st 0)
 
@@ -232,8 +251,10 @@ module _ (g : Tables) (ts : List Float) (kind p r st : ℕ) (B : ℕ) (f : Num (
   o1 : Open one B
   o1 = open-base (startAt g ts kind p r st) (baseAt g ts kind p r st 0) (endByte g kind st 0) o0 (n 0 (omega arith)) (k 0 (omega arith))
 
-  cheap : (b : ℕ) → b < 2 → Under (baseAt g ts kind p r st b .d) B → Under (withBase one (baseAt g ts kind p r st 1) (endByte g kind st 1) .ent .value) B
-  cheap zero h u = cheap-old one (baseAt g ts kind p r st 1) (endByte g kind st 1) (cheap-new (startAt g ts kind p r st) (baseAt g ts kind p r st 0) (endByte g kind st 0) f (k 0 h u) u) (n 1 (omega arith))
+  cheap : (b : ℕ) → b < 2 → Under (baseAt g ts kind p r st b .d) B
+      → Under (withBase one (baseAt g ts kind p r st 1) (endByte g kind st 1) .ent .value) B
+  cheap zero h u = cheap-old one (baseAt g ts kind p r st 1) (endByte g kind st 1)
+      (cheap-new (startAt g ts kind p r st) (baseAt g ts kind p r st 0) (endByte g kind st 0) f (k 0 h u) u) (n 1 (omega arith))
   cheap (suc zero) h u = cheap-new one (baseAt g ts kind p r st 1) (endByte g kind st 1) (o1 .num) (k 1 h u) u
   cheap (suc (suc b)) h u = absurd (none h)
     where
@@ -254,7 +275,9 @@ module _ (g : Tables) (u : Rule) (ts : List Float) (p : ℕ) (F : MidFacts g u t
   mid-final : (b : Best) → SoundB p c d ts b → Final Byte p d ts (midOf b c)
   mid-final b s = go (b .met) s
     where
-      go : (m : Bool) → (m ≡ true → Stands p c d ts (b .key) (b .d)) → Final Byte p d ts (cond m (record { value = b .d; exact = true; byte = c; key = b .key }) (record { value = infinity; exact = true; byte = 0; key = 0 }))
+      go : (m : Bool) → (m ≡ true → Stands p c d ts (b .key) (b .d))
+          → Final Byte p d ts (cond m (record { value = b .d; exact = true; byte = c; key = b .key })
+          (record { value = infinity; exact = true; byte = 0; key = 0 }))
       go true k = inr (record { byte = refl; stands = k refl })
       go false k = inl refl
 
@@ -278,12 +301,14 @@ set-either (x ∷ l) zero (suc j) a d = inr refl
 set-either (x ∷ l) (suc i) zero a d = inr refl
 set-either (x ∷ l) (suc i) (suc j) a d = go (set-either l i j a d)
   where
-    go : ((i ≡ j) × (getD (set l i a) j d ≡ a)) ⊎ (getD (set l i a) j d ≡ getD l j d) → ((suc i ≡ suc j) × (getD (set l i a) j d ≡ a)) ⊎ (getD (set l i a) j d ≡ getD l j d)
+    go : ((i ≡ j) × (getD (set l i a) j d ≡ a)) ⊎ (getD (set l i a) j d ≡ getD l j d) → ((suc i ≡ suc j) × (getD (set l i a) j d ≡ a))
+        ⊎ (getD (set l i a) j d ≡ getD l j d)
     go (inl h) = inl (ap suc (h .0), h .1)
     go (inr h) = inr h
 
 -- what holds at each index is kept, if the new entry has it at its own
-pub fixed-keeps : (Q : ℕ → Entry → Type 0) (e : List Entry) (i : ℕ) (new : Entry) (j : ℕ) → (i ≡ j → Q j new) → Q j (entAt e j) → Q j (entAt (fixed e i new) j)
+pub fixed-keeps : (Q : ℕ → Entry → Type 0) (e : List Entry) (i : ℕ) (new : Entry) (j : ℕ) → (i ≡ j → Q j new) → Q j (entAt e j)
+    → Q j (entAt (fixed e i new) j)
 fixed-keeps Q e i new j h q = go (entAt e i .exact)
   where
     go : (m : Bool) → Q j (getD (cond m e (set e i new)) j noEntry)
@@ -302,6 +327,7 @@ fixed-mine e i new j {B} m = go (entAt e i .exact) refl
     go true q = m
     go false q = at (set-either e i j new noEntry)
       where
-        at : ((i ≡ j) × (getD (set e i new) j noEntry ≡ new)) ⊎ (getD (set e i new) j noEntry ≡ getD e j noEntry) → Mine (getD (set e i new) j noEntry) B
+        at : ((i ≡ j) × (getD (set e i new) j noEntry ≡ new)) ⊎ (getD (set e i new) j noEntry ≡ getD e j noEntry)
+            → Mine (getD (set e i new) j noEntry) B
         at (inl k) = absurd (no-way (sym q ∙ ap (λ (x : ℕ). entAt e x .exact) (k .0) ∙ m .exact))
         at (inr k) = subst (λ (x : Entry). Mine x B) (sym k) m

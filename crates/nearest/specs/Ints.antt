@@ -46,7 +46,8 @@ four-parts (pos n) = (refl, refl)
 four-parts (negsuc n) = neg-parts (4 * suc n)
 
 pub member-parts : (o : ℕ) (k : ℤ) → posPart (member o k) + 4 * negPart k ≡ o + 4 * posPart k + negPart (member o k)
-member-parts o k = tidy (posPart (member o k)) (negPart (member o k)) o (posPart (pos 4 *ℤ k)) (negPart (pos 4 *ℤ k)) (posPart k) (negPart k) (add-parts (pos o) (pos 4 *ℤ k)) (four-parts k .0) (four-parts k .1)
+member-parts o k = tidy (posPart (member o k)) (negPart (member o k)) o (posPart (pos 4 *ℤ k)) (negPart (pos 4 *ℤ k)) (posPart k)
+    (negPart k) (add-parts (pos o) (pos 4 *ℤ k)) (four-parts k .0) (four-parts k .1)
   where
     tidy : (p n o a b x y : ℕ) → p + (0 + b) ≡ o + a + n → a ≡ 4 * x → b ≡ 4 * y → p + 4 * y ≡ o + 4 * x + n
     tidy p n o a b x y h e f = omega arith
@@ -100,7 +101,8 @@ pub gap-is : (o : ℕ) (k : ℤ) (t : Float) → coordGap (member o k) t ≡ gap
 gap-is o k t = go (posPart (member o k)) (negPart (member o k)) (4 * negPart k) (o + 4 * posPart k) U (posUnits t) (negUnits t) (member-parts o k)
   where
     go : (p n b a u x y : ℕ) → p + b ≡ a + n → gap (p * u + y) (n * u + x) ≡ gap (a * u + y) (b * u + x)
-    go p n b a u x y h = gap-eq (p * u + y) (n * u + x) (a * u + y) (b * u + x) (flat (p * u) (b * u) (a * u) (n * u) (sym (add-mul p b u) ∙ ap (λ (z : ℕ). z * u) h ∙ add-mul a n u))
+    go p n b a u x y h = gap-eq (p * u + y) (n * u + x) (a * u + y) (b * u + x)
+        (flat (p * u) (b * u) (a * u) (n * u) (sym (add-mul p b u) ∙ ap (λ (z : ℕ). z * u) h ∙ add-mul a n u))
       where
         flat : (p b a n : ℕ) → p + b ≡ a + n → p + y + (b + x) ≡ a + y + (n + x)
         flat p b a n h = omega arith
@@ -113,10 +115,12 @@ less-or a b h = go (ltb a b) (ltb→lt a b) (nltb→le a b)
     go true l k = inl (l tt)
     go false l k = let m = k tt in inr (omega arith)
 
-far-of : (o pk nk pl nl u x y : ℕ) → pk + nl < pl + nk → 4 * u ≤ gap ((o + 4 * pk) * u + y) (4 * nk * u + x) + gap ((o + 4 * pl) * u + y) (4 * nl * u + x)
+far-of : (o pk nk pl nl u x y : ℕ) → pk + nl < pl + nk
+    → 4 * u ≤ gap ((o + 4 * pk) * u + y) (4 * nk * u + x) + gap ((o + 4 * pl) * u + y) (4 * nl * u + x)
 far-of o pk nk pl nl u x y h =
     let a : (o + 4 * pk + 4 * nl + 4) * u ≤ (o + 4 * pl + 4 * nk) * u = mul-le-mul-right u (omega arith) in
-    let b : (o + 4 * pk + 4 * nl + 4) * u ≡ (o + 4 * pk) * u + 4 * nl * u + 4 * u = add-mul (o + 4 * pk + 4 * nl) 4 u ∙ ap (λ (z : ℕ). z + 4 * u) (add-mul (o + 4 * pk) (4 * nl) u) in
+    let b : (o + 4 * pk + 4 * nl + 4) * u ≡ (o + 4 * pk) * u + 4 * nl * u + 4 * u = add-mul (o + 4 * pk + 4 * nl) 4 u
+    ∙ ap (λ (z : ℕ). z + 4 * u) (add-mul (o + 4 * pk) (4 * nl) u) in
     let c : (o + 4 * pl + 4 * nk) * u ≡ (o + 4 * pl) * u + 4 * nk * u = add-mul (o + 4 * pl) (4 * nk) u in
     flat ((o + 4 * pk) * u) (4 * nk * u) ((o + 4 * pl) * u) (4 * nl * u) (4 * u) (le-trans (le-of-eq (sym b)) (le-trans a (le-of-eq c)))
   where
@@ -128,4 +132,5 @@ far o k l t d = go (less-or (posPart k + negPart l) (posPart l + negPart k) (apa
   where
     go : (posPart k + negPart l < posPart l + negPart k) ⊎ (posPart l + negPart k < posPart k + negPart l) → 4 * U ≤ gapK o k t + gapK o l t
     go (inl h) = far-of o (posPart k) (negPart k) (posPart l) (negPart l) U (posUnits t) (negUnits t) h
-    go (inr h) = subst (λ (z : ℕ). 4 * U ≤ z) (add-comm (gapK o l t) (gapK o k t)) (far-of o (posPart l) (negPart l) (posPart k) (negPart k) U (posUnits t) (negUnits t) h)
+    go (inr h) = subst (λ (z : ℕ). 4 * U ≤ z) (add-comm (gapK o l t) (gapK o k t))
+        (far-of o (posPart l) (negPart l) (posPart k) (negPart k) U (posUnits t) (negUnits t) h)

@@ -52,7 +52,8 @@ module _ (g : Tables) (p : ℕ) (s : Sides) (N : (i n : ℕ) → i < 128 → n <
   row-old i l w u zero h = u
   row-old i l w u (suc n) h = keep-old (wayAt g p s i n) (rowTo g p s i w n) (N i n l h) (row-old i l w u n (omega arith))
 
-  row-new : (i : ℕ) → i < 128 → (w : Way) {B : ℕ} → Num (w .cost) → (j : ℕ) → Under (costAt g p s i j) B → (n : ℕ) → n ≤ 32 → j < n → Under (rowTo g p s i w n .cost) B
+  row-new : (i : ℕ) → i < 128 → (w : Way) {B : ℕ} → Num (w .cost) → (j : ℕ) → Under (costAt g p s i j) B → (n : ℕ) → n ≤ 32 → j < n
+      → Under (rowTo g p s i w n .cost) B
   unfolding rowTo
   row-new i l w m j u zero h k = absurd (none k)
     where
@@ -61,7 +62,8 @@ module _ (g : Tables) (p : ℕ) (s : Sides) (N : (i n : ℕ) → i < 128 → n <
   row-new i l w {B} m j u (suc n) h k = go (λ q. row-new i l w m j u n (omega arith) q) (ℕ-discrete n j)
     where
       go : (j < n → Under (rowTo g p s i w n .cost) B) → Dec (n ≡ j) → Under (keep (wayAt g p s i n) (rowTo g p s i w n) .cost) B
-      go r (yes e) = keep-new (wayAt g p s i n) (rowTo g p s i w n) (subst (λ (z : ℕ). Under (costAt g p s i z) B) (sym e) u) (row-num i l w m n (omega arith))
+      go r (yes e) = keep-new (wayAt g p s i n) (rowTo g p s i w n)
+          (subst (λ (z : ℕ). Under (costAt g p s i z) B) (sym e) u) (row-num i l w m n (omega arith))
       go r (no d) = keep-old (wayAt g p s i n) (rowTo g p s i w n) (N i n l h) (r (below d k))
 
   row-seen : (i : ℕ) → i < 128 → (w : Way) → Seen g p s w → (n : ℕ) → n ≤ 32 → Seen g p s (rowTo g p s i w n)
@@ -92,16 +94,21 @@ module _ (g : Tables) (p : ℕ) (s : Sides) (N : (i n : ℕ) → i < 128 → n <
       go r false = row-seen n h (joinTo g p s n) r 32 (le-refl 32)
 
   -- a path that is under B, and whose first entry is, leaves the join under B: passed over or walked, the best is no dearer
-  pub join-under : (i j : ℕ) → j < 32 → {B : ℕ} → Under (entAt (s .e1) i .value) B → Under (costAt g p s i j) B → (n : ℕ) → n ≤ 128 → i < n → Under (joinTo g p s n .cost) B
+  pub join-under : (i j : ℕ) → j < 32 → {B : ℕ} → Under (entAt (s .e1) i .value) B → Under (costAt g p s i j) B → (n : ℕ) → n ≤ 128 → i < n
+      → Under (joinTo g p s n .cost) B
   unfolding joinTo
   join-under i j k u c zero h l = absurd (none l)
     where
       none : i < 0 → ⊥
       none l = omega arith
-  join-under i j k {B} u c (suc n) h l = go (λ q. join-under i j k u c n (omega arith) q) (ℕ-discrete n i) (le (joinTo g p s n .cost) (entAt (s .e1) n .value)) refl
+  join-under i j k {B} u c (suc n) h l =
+      go (λ q. join-under i j k u c n (omega arith) q) (ℕ-discrete n i) (le (joinTo g p s n .cost) (entAt (s .e1) n .value)) refl
     where
-      go : (i < n → Under (joinTo g p s n .cost) B) → Dec (n ≡ i) → (t : Bool) → le (joinTo g p s n .cost) (entAt (s .e1) n .value) ≡ t → Under ((cond t (joinTo g p s n) (rowTo g p s n (joinTo g p s n) 32)) .cost) B
-      go r (yes e) true q = under-le (joinTo g p s n .cost) (entAt (s .e1) n .value) (join-num n (omega arith)) (subst (λ (z : ℕ). Under (entAt (s .e1) z .value) B) (sym e) u) q
-      go r (yes e) false q = row-new n h (joinTo g p s n) (join-num n (omega arith)) j (subst (λ (z : ℕ). Under (costAt g p s z j) B) (sym e) c) 32 (le-refl 32) k
+      go : (i < n → Under (joinTo g p s n .cost) B) → Dec (n ≡ i) → (t : Bool) → le (joinTo g p s n .cost) (entAt (s .e1) n .value) ≡ t
+          → Under ((cond t (joinTo g p s n) (rowTo g p s n (joinTo g p s n) 32)) .cost) B
+      go r (yes e) true q = under-le (joinTo g p s n .cost) (entAt (s .e1) n .value) (join-num n (omega arith))
+          (subst (λ (z : ℕ). Under (entAt (s .e1) z .value) B) (sym e) u) q
+      go r (yes e) false q = row-new n h (joinTo g p s n) (join-num n (omega arith)) j
+          (subst (λ (z : ℕ). Under (costAt g p s z j) B) (sym e) c) 32 (le-refl 32) k
       go r (no d) true q = r (below d l)
       go r (no d) false q = row-old n h (joinTo g p s n) (r (below d l)) 32 (le-refl 32)

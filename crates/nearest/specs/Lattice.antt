@@ -53,9 +53,11 @@ M = margin
 
 -- the margin turned round: a lattice point of a parity searched that is no further than y by 2 ^ -20 is y
 abbrev pub Margin : Tables → Targets → List ℕ → (ℕ → ℤ) → (ℕ → ℤ) → (ℕ → ℤ) → Type 0
-Margin g t ps y1 y2 y3 = (p : ℕ) → List·Memᴰ p ps → (z1 z2 z3 : ℕ → ℤ) → Point g p z1 z2 z3 → dist24 t z1 z2 z3 ≤ dist24 t y1 y2 y3 + M → Same z1 y1 × Same z2 y2 × Same z3 y3
+Margin g t ps y1 y2 y3 = (p : ℕ) → List·Memᴰ p ps → (z1 z2 z3 : ℕ → ℤ) → Point g p z1 z2 z3 → dist24 t z1 z2 z3 ≤ dist24 t y1 y2 y3 + M
+    → Same z1 y1 × Same z2 y2 × Same z3 y3
 
-module _ (g : Tables) (t : Targets) (ps : List ℕ) (p : ℕ) (P0 : List·Memᴰ p ps) (y1 y2 y3 : ℕ → ℤ) (Y : Point g p y1 y2 y3) (H : Margin g t ps y1 y2 y3) where
+module _ (g : Tables) (t : Targets) (ps : List ℕ) (p : ℕ) (P0 : List·Memᴰ p ps) (y1 y2 y3 : ℕ → ℤ) (Y : Point g p y1 y2 y3)
+    (H : Margin g t ps y1 y2 y3) where
   le1 : (a b c d m : ℕ) → a ≤ d + m → a + b + c ≤ d + b + c + m
   le1 a b c d m h = omega arith
 
@@ -67,15 +69,67 @@ module _ (g : Tables) (t : Targets) (ps : List ℕ) (p : ℕ) (P0 : List·Memᴰ
 
   pub own1 : (b : ℕ) → b < 2 → (s : ℕ → ℤ) → Sec p (getD (g .pre) (2 * Y .s8 + b) 0) (Y .r1) s → dist8 s (t .t1) ≤ dist8 y1 (t .t1) + M → Same s y1
   own1 b h s a l = H p P0 s y2 y3
-      (record { s8 = Y .s8; b1 = b; b2 = Y .b2; b3 = Y .b3; r1 = Y .r1; r2 = Y .r2; s8-lt = Y .s8-lt; b1-lt = h; b2-lt = Y .b2-lt; b3-lt = Y .b3-lt; r1-lt = Y .r1-lt; r2-lt = Y .r2-lt; sec1 = a; sec2 = Y .sec2; sec3 = Y .sec3 })
+      (record {
+        s8 = Y .s8;
+        b1 = b;
+        b2 = Y .b2;
+        b3 = Y .b3;
+        r1 = Y .r1;
+        r2 = Y .r2;
+        s8-lt = Y .s8-lt;
+        b1-lt = h;
+        b2-lt = Y .b2-lt;
+        b3-lt =
+            Y .b3-lt;
+        r1-lt = Y .r1-lt;
+        r2-lt = Y .r2-lt;
+        sec1 = a;
+        sec2 = Y .sec2;
+        sec3 = Y .sec3;
+      })
       (le1 (dist8 s (t .t1)) (dist8 y2 (t .t2)) (dist8 y3 (t .t3)) (dist8 y1 (t .t1)) M l) .0
 
   pub own2 : (s : ℕ → ℤ) → Sec p (getD (g .mid) (Y .s8 * 16 + Y .b2) 0) (Y .r2) s → dist8 s (t .t2) ≤ dist8 y2 (t .t2) + M → Same s y2
   own2 s a l = H p P0 y1 s y3
-      (record { s8 = Y .s8; b1 = Y .b1; b2 = Y .b2; b3 = Y .b3; r1 = Y .r1; r2 = Y .r2; s8-lt = Y .s8-lt; b1-lt = Y .b1-lt; b2-lt = Y .b2-lt; b3-lt = Y .b3-lt; r1-lt = Y .r1-lt; r2-lt = Y .r2-lt; sec1 = Y .sec1; sec2 = a; sec3 = Y .sec3 })
+      (record {
+        s8 = Y .s8;
+        b1 = Y .b1;
+        b2 = Y .b2;
+        b3 = Y .b3;
+        r1 = Y .r1;
+        r2 = Y .r2;
+        s8-lt = Y .s8-lt;
+        b1-lt = Y .b1-lt;
+        b2-lt =
+            Y .b2-lt;
+        b3-lt = Y .b3-lt;
+        r1-lt = Y .r1-lt;
+        r2-lt = Y .r2-lt;
+        sec1 = Y .sec1;
+        sec2 = a;
+        sec3 = Y .sec3;
+      })
       (le2 (dist8 y1 (t .t1)) (dist8 s (t .t2)) (dist8 y3 (t .t3)) (dist8 y2 (t .t2)) M l) .1
 
-  pub own3 : (b : ℕ) → b < 2 → (s : ℕ → ℤ) → Sec p (getD (g .suf) (2 * getD (g .nxt) (Y .s8 * 16 + Y .b2) 0 + b) 0) ((p + Y .r1 + Y .r2) % 2) s → dist8 s (t .t3) ≤ dist8 y3 (t .t3) + M → Same s y3
+  pub own3 : (b : ℕ) → b < 2 → (s : ℕ → ℤ)
+      → Sec p (getD (g .suf) (2 * getD (g .nxt) (Y .s8 * 16 + Y .b2) 0 + b) 0) ((p + Y .r1 + Y .r2) % 2) s
+      → dist8 s (t .t3) ≤ dist8 y3 (t .t3) + M → Same s y3
   own3 b h s a l = H p P0 y1 y2 s
-      (record { s8 = Y .s8; b1 = Y .b1; b2 = Y .b2; b3 = b; r1 = Y .r1; r2 = Y .r2; s8-lt = Y .s8-lt; b1-lt = Y .b1-lt; b2-lt = Y .b2-lt; b3-lt = h; r1-lt = Y .r1-lt; r2-lt = Y .r2-lt; sec1 = Y .sec1; sec2 = Y .sec2; sec3 = a })
+      (record {
+        s8 = Y .s8;
+        b1 = Y .b1;
+        b2 = Y .b2;
+        b3 = b;
+        r1 = Y .r1;
+        r2 = Y .r2;
+        s8-lt = Y .s8-lt;
+        b1-lt = Y .b1-lt;
+        b2-lt = Y .b2-lt;
+        b3-lt = h;
+        r1-lt = Y .r1-lt;
+        r2-lt = Y .r2-lt;
+        sec1 = Y .sec1;
+        sec2 = Y .sec2;
+        sec3 = a;
+      })
       (le3 (dist8 y1 (t .t1)) (dist8 y2 (t .t2)) (dist8 s (t .t3)) (dist8 y3 (t .t3)) M l) .2

@@ -19,13 +19,16 @@ H = 2 ^ 2115
 
 sizes : {x y : Float} {p n e q m f : ℕ} → Near U x p n e → Near U y q m f → p + n + e + (q + m + f) < Cap → magUnits x + magUnits y < 2 ^ 1095
 sizes {x} {y} {p} {n} {e} {q} {m} {f} a b h =
-    lt-of-mul-lt-mul-right U (lt-of-le-of-lt (le-of-eq (add-mul (magUnits x) (magUnits y) U)) (lt-of-le-of-lt (go (magUnits x * U) (magUnits y * U) p n e q m f (near-mag a) (near-mag b)) h))
+    lt-of-mul-lt-mul-right U (lt-of-le-of-lt (le-of-eq (add-mul (magUnits x) (magUnits y) U))
+    (lt-of-le-of-lt (go (magUnits x * U) (magUnits y * U) p n e q m f (near-mag a) (near-mag b)) h))
   where
     go : (x y p n e q m f : ℕ) → x ≤ gap p n + e → y ≤ gap q m + f → x + y ≤ p + n + e + (q + m + f)
     go x y p n e q m f h k = omega arith
 
-pub near-plus : {x y : Float} {p n e q m f : ℕ} → Near U x p n e → Near U y q m f → p + n + e + (q + m + f) < Cap → Near U (add binary64 x y) (p + q) (n + m) (e + f + H)
+pub near-plus : {x y : Float} {p n e q m f : ℕ} → Near U x p n e → Near U y q m f → p + n + e + (q + m + f) < Cap
+    → Near U (add binary64 x y) (p + q) (n + m) (e + f + H)
 near-plus a b h = near-add 21 a b (lit≤ tt) (sizes a b h)
 
-pub near-less : {x y : Float} {p n e q m f : ℕ} → Near U x p n e → Near U y q m f → p + n + e + (q + m + f) < Cap → Near U (sub binary64 x y) (p + m) (n + q) (e + f + H)
+pub near-less : {x y : Float} {p n e q m f : ℕ} → Near U x p n e → Near U y q m f → p + n + e + (q + m + f) < Cap
+    → Near U (sub binary64 x y) (p + m) (n + q) (e + f + H)
 near-less a b h = near-sub 21 a b (lit≤ tt) (sizes a b h)

@@ -169,13 +169,16 @@ module _ (g : Tables) (u : Rule) (t : Targets) (G : GoodTables g) (ps : List ℕ
       m-is = ap₂ (λ (a b : ℕ). 2 * getD (g .ix) a 0 + b) at-is n-bit
 
       z-is : lastAt g p iY nY ≡ (p + Y .r1 + Y .r2) % 2 * 64 + getD (g .nxt) (Y .s8 * 16 + Y .b2) 0
-      z-is = ap₂ (λ (a b : ℕ). (p + a + b) % 2 * 64 + getD (g .nxt) (iY % 64 * 16 + nY / 2) 0) i-half n-bit ∙ ap (λ (a : ℕ). (p + Y .r1 + Y .r2) % 2 * 64 + getD (g .nxt) a 0) at-is
+      z-is = ap₂ (λ (a b : ℕ). (p + a + b) % 2 * 64 + getD (g .nxt) (iY % 64 * 16 + nY / 2) 0) i-half n-bit
+          ∙ ap (λ (a : ℕ). (p + Y .r1 + Y .r2) % 2 * 64 + getD (g .nxt) a 0) at-is
 
       under-y : (u0 : Float) → Under (parity g u t p u0 .cost) BY
       unfolding parity
       under-y u0 =
-          join-cheap g t p (PS p I0) G (lastSides g u t p (seedOf g u t p u0)) (last-final g u t p (F p I0) u0) iY nY (dist8 y1 (t .t1) + ES) (dist8 y2 (t .t2) + ES) (dist8 y3 (t .t3) + ES) i-lt n-lt
-          (last-mine g u t p (F p I0) iY (midAt g iY nY) (lastAt g p iY nY) (dist8 y1 (t .t1) + ES) (dist8 y2 (t .t2) + ES) (dist8 y3 (t .t3) + ES) i-lt m-lt z-lt n1 n2 n3 u0)
+          join-cheap g t p (PS p I0) G (lastSides g u t p (seedOf g u t p u0)) (last-final g u t p (F p I0) u0) iY nY
+          (dist8 y1 (t .t1) + ES) (dist8 y2 (t .t2) + ES) (dist8 y3 (t .t3) + ES) i-lt n-lt
+          (last-mine g u t p (F p I0) iY (midAt g iY nY) (lastAt g p iY nY) (dist8 y1 (t .t1) + ES) (dist8 y2 (t .t2) + ES)
+          (dist8 y3 (t .t3) + ES) i-lt m-lt z-lt n1 n2 n3 u0)
         where
           x : ℕ
           x = getD (g .ix) (Y .s8 * 16 + Y .b2) 0
@@ -213,7 +216,9 @@ module _ (g : Tables) (u : Rule) (t : Targets) (G : GoodTables g) (ps : List ℕ
           n2 : Mine (midStart g (t .t2) p (getD (g .sets) (midAt g iY nY / 2) 0) (midAt g iY nY % 2)) (dist8 y2 (t .t2) + ES)
           n2 = subst (λ (e : Entry). Mine e (dist8 y2 (t .t2) + ES))
               (ap₂ (midStart g (t .t2) p)
-              (sym (ap (λ (m : ℕ). getD (g .sets) m 0) (halves (midAt g iY nY) (getD (g .ix) (Y .s8 * 16 + Y .b2) 0) (Y .r2) m-is (Y .r2-lt) .0) ∙ G .ix-byte (Y .s8 * 16 + Y .b2) at-lt))
+              (sym (ap (λ (m : ℕ). getD (g .sets) m 0)
+              (halves (midAt g iY nY) (getD (g .ix) (Y .s8 * 16 + Y .b2) 0) (Y .r2) m-is (Y .r2-lt) .0)
+              ∙ G .ix-byte (Y .s8 * 16 + Y .b2) at-lt))
               (sym (halves (midAt g iY nY) (getD (g .ix) (Y .s8 * 16 + Y .b2) 0) (Y .r2) m-is (Y .r2-lt) .1))) m2
 
           n3 : Mine (endStart g (t .t3) 1 p (lastAt g p iY nY / 64) (lastAt g p iY nY % 64)) (dist8 y3 (t .t3) + ES)

@@ -16,16 +16,14 @@ use Rattle.float.specs.Value.{magUnits, U}
 use Rattle.float.specs.Error.{halfUlp}
 use Rattle.float.specs.Arithmetic.{mul-rounded}
 use Rattle.float.specs.Near.{near-more}
-use Rattle.laws.specs.Lists.{tab-at}
 use Rattle.rank.specs.Coord.{valOf}
 use Rattle.laws.specs.Tests.{upto, below, split3}
-use Rattle.rank.specs.Vector.{sq}
 use Rattle.search.specs.Tables.{Tables, classOf, endByte, fallbackAt}
 use Rattle.search.specs.Entries.{Rule, rankAt, sectionAt, fallback, endStart, midStart}
 use Rattle.search.specs.Parity.{Targets, search}
 use Rattle.search.specs.declared.Coord.{Coord}
-use Rattle.search.specs.Record.{noCoord, coordAt, coordOf, shrinks, row, bitAt, slotK, member, sqTo}
-use Rattle.nearest.specs.Keys.{markK, kAt, val-is, nib-lt}
+use Rattle.search.specs.Record.{coordOf, shrinks, row}
+use Rattle.nearest.specs.Keys.{kAt, val-is, nib-lt}
 use Rattle.nearest.specs.Statement.{parK, RowOf, RuleOk}
 use Rattle.nearest.specs.Coordinate.{Target, rounded-lt}
 use Rattle.nearest.specs.Operations.{H}
@@ -35,8 +33,9 @@ use Rattle.nearest.specs.Entries.{ES, Good, EndByte, EndFacts, MidFacts,
 use Rattle.nearest.specs.Pass.{Facts}
 use Rattle.nearest.specs.Winner.{GoodTables}
 use Rattle.nearest.specs.Parities.{IsY, winner-is-y}
-use Rattle.nearest.specs.Candidate.{oAt, tAt, o-lt, near-dist, sum-top}
-use Rattle.nearest.specs.Steps.{Row, coord-rank, coord-w, coord-d}
+use Rattle.nearest.specs.Shape.{oAt, o-lt, row-at, row-slots, row-d}
+use Rattle.nearest.specs.Candidate.{tAt, near-dist, sum-top}
+use Rattle.nearest.specs.Steps.{Row}
 use Rattle.nearest.specs.Bases.{base-good, base-num, cheap-member, own-cheap}
 use Rattle.nearest.specs.Solve.{solve-ok}
 
@@ -53,7 +52,8 @@ all-tame = tt
 
 tame-at : (s : ℕ) → s < 8 → T (fits binary64 (sh s)) × T (finite (sh s)) × (magUnits (sh s) ≤ U)
 unfolding tame
-tame-at s h = let x = split3 (fits binary64 (sh s)) (finite (sh s)) (leb (magUnits (sh s)) U) (below 8 (λ s. tame (sh s)) all-tame s h) in (x .0, x .1, leb→le (magUnits (sh s)) U (x .2))
+tame-at s h = let x = split3 (fits binary64 (sh s)) (finite (sh s)) (leb (magUnits (sh s)) U) (below 8 (λ s. tame (sh s)) all-tame s h) in
+    (x .0, x .1, leb→le (magUnits (sh s)) U (x .2))
 
 -- a target below 16
 pub record Target16 (t : Float) : Type 0 where
@@ -69,7 +69,10 @@ shrunk t h a f i l =
     let m : magUnits t < 2 ^ 1079 = lt-of-lt-of-le (a .small) (lit≤ tt) in
     let k : magUnits t * U < 2 ^ 1079 * U = mul-lt-mul-of-pos-right m (pow-pos 1074) in
     let r = mul-rounded t h 5 (a .fit) f (a .fin) i (lit≤ tt) (lt-of-le-of-lt (mul-le-mul-left (magUnits t) l) k) in
-    let x : magUnits (mul binary64 t h) ≤ magUnits t + halfUlp 5 = le-of-mul-le-mul-right (le-trans (r .hi) (le-trans (add-r (magUnits t * magUnits h) (magUnits t * U) (halfUlp 5 * U) (mul-le-mul-left (magUnits t) l)) (le-of-eq (sym (add-mul (magUnits t) (halfUlp 5) U))))) (pow-pos 1074) in
+    let x : magUnits (mul binary64 t h) ≤ magUnits t + halfUlp 5 =
+    le-of-mul-le-mul-right (le-trans (r .hi)
+    (le-trans (add-r (magUnits t * magUnits h) (magUnits t * U) (halfUlp 5 * U) (mul-le-mul-left (magUnits t) l))
+    (le-of-eq (sym (add-mul (magUnits t) (halfUlp 5) U))))) (pow-pos 1074) in
     record { fit = r .fit; fin = r .fin; small = lt-of-le-of-lt x (lt-of-lt-of-le (add-lt (magUnits t) (2 ^ 1078) (halfUlp 5) (a .small)) (lit≤ tt)) }
   where
     add-r : (a b c : ℕ) → a ≤ b → a + c ≤ b + c
@@ -89,14 +92,11 @@ rows : (ts : List Float) (p c : ℕ) → p < 2 → Small8 ts → (s : ℕ) → s
 rows ts p c P0 T0 s S0 =
     let q = tame-at s S0 in
     record {
-      small = λ j h. subst (λ (x : Coord). natAbs (x .k0) < 16) (sym (at j h)) (k-small (tAt ts j) (sh s) (oAt p c j) (o-lt p c j P0) (T0 j h) (q .0) (q .1) (q .2));
-      rank-is = λ j f h l. subst (λ (x : Coord). getD (x .rank) f 0 ≡ markK (oAt p c j) (slotK (x .k0) f)) (sym (at j h)) (coord-rank (tAt ts j) (sh s) (oAt p c j) f l);
-      w-is = λ j f h l. subst (λ (x : Coord). getD (x .w) f 0 ≡ sq (markK (oAt p c j) (slotK (x .k0) f))) (sym (at j h)) (coord-w (tAt ts j) (sh s) (oAt p c j) f l);
-      d-is = λ j f h l. subst (λ (x : Coord). getD (x .d) f nan ≡ sqTo (member (oAt p c j) (slotK (x .k0) f)) (tAt ts j)) (sym (at j h)) (coord-d (tAt ts j) (sh s) (oAt p c j) f l);
+      small = λ j h. subst (λ (x : Coord). natAbs (x .k0) < 16) (sym (row-at ts p c s j h))
+          (k-small (tAt ts j) (sh s) (oAt p c j) (o-lt p c j P0) (T0 j h) (q .0) (q .1) (q .2));
+      slots = row-slots ts p c s;
+      d-is = row-d ts p c s;
     }
-  where
-    at : (j : ℕ) → j < 8 → coordAt (row ts p c s) j ≡ coordOf (tAt ts j) (sh s) (oAt p c j)
-    at j h = unfold row in tab-at Coord noCoord (λ j. coordOf (getD ts j nan) (getD shrinks s nan) (p + 2 * bitAt c j)) 8 j h
 
 -- ---- fallbacks
 pub record MoreTables (g : Tables) : Type 0 where
@@ -105,26 +105,37 @@ pub record MoreTables (g : Tables) : Type 0 where
   pub costM : g .mixed .cost ≤ 96
   pub fb-byte : (kind p r st : ℕ) → kind < 2 → p < 2 → r < 2 → st < 64 → EndByte g kind st (getD (g .fbByte) (fallbackAt kind p r st) 0)
   pub fb-rank : (kind p r st j : ℕ) → kind < 2 → p < 2 → r < 2 → st < 64 → j < 8 → rankAt (getD (g .fbKey) (fallbackAt kind p r st) 0) j < 8
-  pub fb-class : (kind p r st : ℕ) → kind < 2 → p < 2 → r < 2 → st < 64 → parK (λ j. kAt (oAt p (getD (g .fbByte) (fallbackAt kind p r st) 0) j) (rankAt (getD (g .fbKey) (fallbackAt kind p r st) 0) j)) 8 ≡ r
+  pub fb-class : (kind p r st : ℕ) → kind < 2 → p < 2 → r < 2 → st < 64
+      → parK (λ j. kAt (oAt p (getD (g .fbByte) (fallbackAt kind p r st) 0) j) (rankAt (getD (g .fbKey) (fallbackAt kind p r st) 0) j)) 8 ≡ r
 
 near-val : T (upto 4 (λ o. upto 16 (λ r. ltb (natAbs (valOf o r)) 128)))
 unfolding valOf
 near-val = tt
 
-val-small : (o r : ℕ) → o < 4 → r < 16 → natAbs (valOf o r) < 128
+pub val-small : (o r : ℕ) → o < 4 → r < 16 → natAbs (valOf o r) < 128
 val-small o r h l =
-    ltb→lt (natAbs (valOf o r)) 128 (below 16 (λ r. ltb (natAbs (valOf o r)) 128) (below 4 (λ o. upto 16 (λ r. ltb (natAbs (valOf o r)) 128)) near-val o h) r l)
+    ltb→lt (natAbs (valOf o r)) 128
+    (below 16 (λ r. ltb (natAbs (valOf o r)) 128) (below 4 (λ o. upto 16 (λ r. ltb (natAbs (valOf o r)) 128)) near-val o h) r l)
 
-fb-good : (g : Tables) → MoreTables g → (ts : List Float) → Small8 ts → (kind p r st : ℕ) → kind < 2 → p < 2 → r < 2 → st < 64 → Good (EndByte g kind st) p r ts (fallback g ts kind p r st)
+fb-good : (g : Tables) → MoreTables g → (ts : List Float) → Small8 ts → (kind p r st : ℕ) → kind < 2 → p < 2 → r < 2 → st < 64
+    → Good (EndByte g kind st) p r ts (fallback g ts kind p r st)
 fb-good g G ts T0 kind p r st K0 P0 R0 S0 =
     let c = getD (g .fbByte) (fallbackAt kind p r st) 0 in
     let key = getD (g .fbKey) (fallbackAt kind p r st) 0 in
     record {
       byte = G .fb-byte kind p r st K0 P0 R0 S0;
       stands = record {
-        sec = record { k = λ j. kAt (oAt p c j) (rankAt key j); at = λ j h. val-is (oAt p c j) (rankAt key j) (o-lt p c j P0) (G .fb-rank kind p r st j K0 P0 R0 S0 h); class = G .fb-class kind p r st K0 P0 R0 S0 };
-        near = near-more ES (near-dist (sectionAt p c key) ts (λ j h. val-small (oAt p c j) (rankAt key j) (o-lt p c j P0) (nib-lt key j)) (λ j h. wider (T0 j h)) 8 (le-refl 8)) (lit≤ tt);
-        room = le-trans (sum-top (sectionAt p c key) ts (λ j h. val-small (oAt p c j) (rankAt key j) (o-lt p c j P0) (nib-lt key j)) (λ j h. wider (T0 j h)) 8 (le-refl 8)) (lit≤ tt);
+        sec = record {
+          k = λ j. kAt (oAt p c j) (rankAt key j);
+          at = λ j h.
+              val-is (oAt p c j) (rankAt key j) (o-lt p c j P0) (G .fb-rank kind p r st j K0 P0 R0 S0 h);
+          class =
+              G .fb-class kind p r st K0 P0 R0 S0;
+        };
+        near = near-more ES (near-dist (sectionAt p c key) ts
+            (λ j h. val-small (oAt p c j) (rankAt key j) (o-lt p c j P0) (nib-lt key j)) (λ j h. wider (T0 j h)) 8 (le-refl 8)) (lit≤ tt);
+        room = le-trans (sum-top (sectionAt p c key) ts
+            (λ j h. val-small (oAt p c j) (rankAt key j) (o-lt p c j P0) (nib-lt key j)) (λ j h. wider (T0 j h)) 8 (le-refl 8)) (lit≤ tt);
       };
     }
 
@@ -152,7 +163,8 @@ module _ (g : Tables) (G1 : MoreTables g) (u : Rule) (U0 : RuleOk u) where
   }
 
   pub all-facts : (t : Targets) → Small8 (t .t1) → Small8 (t .t2) → Small8 (t .t3) → (p : ℕ) → p < 2 → Facts g u t p
-  all-facts t A B C p P0 = record { one = end-facts (t .t1) A 0 p (zero-lt-suc 1) P0; two = mid-facts (t .t2) B p P0; three = end-facts (t .t3) C 1 p (le-refl 2) P0 }
+  all-facts t A B C p P0 = record
+      { one = end-facts (t .t1) A 0 p (zero-lt-suc 1) P0; two = mid-facts (t .t2) B p P0; three = end-facts (t .t3) C 1 p (le-refl 2) P0 }
 
 -- ---- y has a word: a row of its own bound in each section
 pub record HasRows (g : Tables) (p : ℕ) {y1 y2 y3 : ℕ → ℤ} (Y : Point g p y1 y2 y3) : Type 0 where
@@ -160,8 +172,10 @@ pub record HasRows (g : Tables) (p : ℕ) {y1 y2 y3 : ℕ → ℤ} (Y : Point g 
   pub two : RowOf p (getD (g .mid) (Y .s8 * 16 + Y .b2) 0) (g .mixed) y2
   pub three : RowOf p (getD (g .suf) (2 * getD (g .nxt) (Y .s8 * 16 + Y .b2) 0 + Y .b3) 0) (classOf g ((p + Y .r1 + Y .r2) % 2)) y3
 
-module _ (g : Tables) (G0 : GoodTables g) (G1 : MoreTables g) (u : Rule) (U0 : RuleOk u) (t : Targets) (A : Small8 (t .t1)) (B : Small8 (t .t2)) (C : Small8 (t .t3))
-    (ps : List ℕ) (PS : (q : ℕ) → List·Memᴰ q ps → q < 2) (p : ℕ) (I0 : List·Memᴰ p ps) (y1 y2 y3 : ℕ → ℤ) (Y : Point g p y1 y2 y3) (W : HasRows g p Y) (H : Margin g t ps y1 y2 y3) where
+module _ (g : Tables) (G0 : GoodTables g) (G1 : MoreTables g) (u : Rule) (U0 : RuleOk u) (t : Targets) (A : Small8 (t .t1))
+    (B : Small8 (t .t2)) (C : Small8 (t .t3))
+    (ps : List ℕ) (PS : (q : ℕ) → List·Memᴰ q ps → q < 2) (p : ℕ) (I0 : List·Memᴰ p ps) (y1 y2 y3 : ℕ → ℤ) (Y : Point g p y1 y2 y3)
+    (W : HasRows g p Y) (H : Margin g t ps y1 y2 y3) where
   P0 : p < 2
   P0 = PS p I0
 
@@ -172,28 +186,41 @@ module _ (g : Tables) (G0 : GoodTables g) (G1 : MoreTables g) (u : Rule) (U0 : R
   r3-lt = mod-lt (p + Y .r1 + Y .r2) (zero-lt-suc 1)
 
   mine1 : Mine (endStart g (t .t1) 0 p (Y .r1) (Y .s8)) (dist8 y1 (t .t1) + ES)
-  mine1 = start-mine g (t .t1) 0 p (Y .r1) (Y .s8) (dist8 y1 (t .t1) + ES) (near-num (fb-good g G1 (t .t1) A 0 p (Y .r1) (Y .s8) (zero-lt-suc 1) P0 (Y .r1-lt) (Y .s8-lt) .stands .near))
+  mine1 = start-mine g (t .t1) 0 p (Y .r1) (Y .s8) (dist8 y1 (t .t1) + ES)
+      (near-num (fb-good g G1 (t .t1) A 0 p (Y .r1) (Y .s8) (zero-lt-suc 1) P0 (Y .r1-lt) (Y .s8-lt) .stands .near))
       (λ a h. base-num (t .t1) p (endByte g 0 (Y .s8) a) P0 (λ j h. wider (A j h)) (Y .r1))
-      (λ a h. cheap-member (t .t1) p (endByte g 0 (Y .s8) a) P0 (λ j h. wider (A j h)) (Y .r1) (Y .r1-lt) y1 (own1 g t ps p I0 y1 y2 y3 Y H a h) (classOf g (Y .r1)) (class-cost g G1 (Y .r1)) (getD (g .pre) (2 * Y .s8 + Y .b1) 0) (W .one))
+      (λ a h. cheap-member (t .t1) p (endByte g 0 (Y .s8) a) P0 (λ j h. wider (A j h)) (Y .r1) (Y .r1-lt) y1
+      (own1 g t ps p I0 y1 y2 y3 Y H a h) (classOf g (Y .r1)) (class-cost g G1 (Y .r1)) (getD (g .pre) (2 * Y .s8 + Y .b1) 0) (W .one))
       (Y .b1) (Y .b1-lt)
-      (own-cheap (t .t1) p (endByte g 0 (Y .s8) (Y .b1)) P0 (λ j h. wider (A j h)) (Y .r1) (Y .r1-lt) y1 (own1 g t ps p I0 y1 y2 y3 Y H (Y .b1) (Y .b1-lt)) (classOf g (Y .r1)) (class-cost g G1 (Y .r1)) (getD (g .pre) (2 * Y .s8 + Y .b1) 0) (W .one) (Y .sec1))
+      (own-cheap (t .t1) p (endByte g 0 (Y .s8) (Y .b1)) P0
+      (λ j h. wider (A j h)) (Y .r1) (Y .r1-lt) y1 (own1 g t ps p I0 y1 y2 y3 Y H (Y .b1) (Y .b1-lt)) (classOf g (Y .r1))
+      (class-cost g G1 (Y .r1)) (getD (g .pre) (2 * Y .s8 + Y .b1) 0) (W .one) (Y .sec1))
 
   mine3 : Mine (endStart g (t .t3) 1 p ((p + Y .r1 + Y .r2) % 2) (getD (g .nxt) (Y .s8 * 16 + Y .b2) 0)) (dist8 y3 (t .t3) + ES)
   mine3 =
       let st = getD (g .nxt) (Y .s8 * 16 + Y .b2) 0 in
       let r = (p + Y .r1 + Y .r2) % 2 in
-      start-mine g (t .t3) 1 p r st (dist8 y3 (t .t3) + ES) (near-num (fb-good g G1 (t .t3) C 1 p r st (le-refl 2) P0 r3-lt (G0 .nxt-lt (Y .s8 * 16 + Y .b2) at-lt) .stands .near))
+      start-mine g (t .t3) 1 p r st (dist8 y3 (t .t3) + ES)
+      (near-num (fb-good g G1 (t .t3) C 1 p r st (le-refl 2) P0 r3-lt (G0 .nxt-lt (Y .s8 * 16 + Y .b2) at-lt) .stands .near))
       (λ a h. base-num (t .t3) p (endByte g 1 st a) P0 (λ j h. wider (C j h)) r)
-      (λ a h. cheap-member (t .t3) p (endByte g 1 st a) P0 (λ j h. wider (C j h)) r r3-lt y3 (own3 g t ps p I0 y1 y2 y3 Y H a h) (classOf g r) (class-cost g G1 r) (getD (g .suf) (2 * st + Y .b3) 0) (W .three))
+      (λ a h. cheap-member (t .t3) p (endByte g 1 st a) P0 (λ j h. wider (C j h)) r r3-lt y3 (own3 g t ps p I0 y1 y2 y3 Y H a h)
+      (classOf g r) (class-cost g G1 r) (getD (g .suf) (2 * st + Y .b3) 0) (W .three))
       (Y .b3) (Y .b3-lt)
-      (own-cheap (t .t3) p (endByte g 1 st (Y .b3)) P0 (λ j h. wider (C j h)) r r3-lt y3 (own3 g t ps p I0 y1 y2 y3 Y H (Y .b3) (Y .b3-lt)) (classOf g r) (class-cost g G1 r) (getD (g .suf) (2 * st + Y .b3) 0) (W .three) (Y .sec3))
+      (own-cheap (t .t3) p (endByte g 1 st (Y .b3)) P0
+      (λ j h. wider (C j h)) r r3-lt y3 (own3 g t ps p I0 y1 y2 y3 Y H (Y .b3) (Y .b3-lt)) (classOf g r) (class-cost g G1 r)
+      (getD (g .suf) (2 * st + Y .b3) 0) (W .three) (Y .sec3))
 
   mine2 : Mine (midStart g (t .t2) p (getD (g .mid) (Y .s8 * 16 + Y .b2) 0) (Y .r2)) (dist8 y2 (t .t2) + ES)
   unfolding midStart
   mine2 =
       let c = getD (g .mid) (Y .s8 * 16 + Y .b2) 0 in
-      let x = own-cheap (t .t2) p c P0 (λ j h. wider (B j h)) (Y .r2) (Y .r2-lt) y2 (own2 g t ps p I0 y1 y2 y3 Y H) (g .mixed) (G1 .costM) c (W .two) (Y .sec2) in
-      record { exact = cheap-member (t .t2) p c P0 (λ j h. wider (B j h)) (Y .r2) (Y .r2-lt) y2 (own2 g t ps p I0 y1 y2 y3 Y H) (g .mixed) (G1 .costM) c (W .two) x; under = x }
+      let x = own-cheap (t .t2) p c P0 (λ j h. wider (B j h)) (Y .r2) (Y .r2-lt) y2 (own2 g t ps p I0 y1 y2 y3 Y H) (g .mixed) (G1 .costM) c
+      (W .two) (Y .sec2) in
+      record {
+        exact = cheap-member (t .t2) p c P0
+            (λ j h. wider (B j h)) (Y .r2) (Y .r2-lt) y2 (own2 g t ps p I0 y1 y2 y3 Y H) (g .mixed) (G1 .costM) c (W .two) x;
+        under = x;
+      }
 
   pub demand-three : IsY g u t G0 ps PS (λ q i. all-facts g G1 u U0 t A B C q (PS q i)) y1 y2 y3 H (search g u t ps)
   demand-three = winner-is-y g u t G0 ps PS (λ q i. all-facts g G1 u U0 t A B C q (PS q i)) y1 y2 y3 H p I0 Y mine1 mine2 mine3

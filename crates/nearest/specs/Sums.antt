@@ -70,15 +70,18 @@ pub odd-le : (f g : ℕ → ℕ) (k0 k : ℕ → ℤ) (w a b n : ℕ) → parK k
     → ((j : ℕ) → j < n → k0 j ≢ k j → f j + a ≤ g j + b) → sumTo f n + a ≤ sumTo g n + b + n * w
 unfolding sumTo
 odd-le f g k0 k w a b zero d h s = absurd (d refl)
-odd-le f g k0 k w a b (suc n) d h s = go (λ m. odd-le f g k0 k w a b n m (λ j l. h j (below l)) (λ j l. s j (below l))) (ℕ-discrete (parK k0 n) (parK k n))
+odd-le f g k0 k w a b (suc n) d h s =
+    go (λ m. odd-le f g k0 k w a b n m (λ j l. h j (below l)) (λ j l. s j (below l))) (ℕ-discrete (parK k0 n) (parK k n))
   where
     c : suc n * w ≡ n * w + w
     c = suc-mul n w
 
-    go : (parK k0 n ≢ parK k n → sumTo f n + a ≤ sumTo g n + b + n * w) → Dec (parK k0 n ≡ parK k n) → sumTo f n + f n + a ≤ sumTo g n + g n + b + suc n * w
+    go : (parK k0 n ≢ parK k n → sumTo f n + a ≤ sumTo g n + b + n * w) → Dec (parK k0 n ≡ parK k n)
+        → sumTo f n + f n + a ≤ sumTo g n + g n + b + suc n * w
     go r (yes e) =
         let x = sum-le f g w n (λ j l. h j (below l)) in
-        let y = s n (le-refl (suc n)) (λ (q : k0 n ≡ k n). d (same (sumTo (λ j. oddK (k0 j)) n) (sumTo (λ j. oddK (k j)) n) (oddK (k0 n)) (oddK (k n)) e (ap oddK q))) in
+        let y = s n (le-refl (suc n)) (λ (q : k0 n ≡ k n).
+        d (same (sumTo (λ j. oddK (k0 j)) n) (sumTo (λ j. oddK (k j)) n) (oddK (k0 n)) (oddK (k n)) e (ap oddK q))) in
         let z = c in
         omega arith
       where
@@ -89,3 +92,9 @@ odd-le f g k0 k w a b (suc n) d h s = go (λ m. odd-le f g k0 k w a b n m (λ j 
         let y = h n (le-refl (suc n)) in
         let z = c in
         omega arith
+
+-- the first term apart
+pub sum-front : (f : ℕ → ℕ) (n : ℕ) → f 0 + sumTo (λ j. f (suc j)) n ≡ sumTo f (suc n)
+unfolding sumTo
+sum-front f zero = omega arith
+sum-front f (suc n) = let a = sum-front f n in omega arith

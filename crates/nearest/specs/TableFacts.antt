@@ -16,7 +16,7 @@ use Rattle.search.specs.Tables.{tables, endByte, fallbackAt, middleSets, branch
 use Rattle.search.specs.Entries.{rankAt}
 use Rattle.nearest.specs.Statement.{sumTo, parK}
 use Rattle.nearest.specs.Keys.{kAt}
-use Rattle.nearest.specs.Candidate.{oAt}
+use Rattle.nearest.specs.Shape.{oAt}
 use Rattle.nearest.specs.Entries.{EndByte}
 use Rattle.nearest.specs.Winner.{GoodTables}
 use Rattle.nearest.specs.Premises.{MoreTables}
@@ -74,9 +74,11 @@ pub tables-good : GoodTables tables
 unfolding branch
 tables-good =
     record {
-      ix-lt = λ k h. ltb→lt (getD branchEntries k 0) 128 (and-left (ltb (getD branchEntries k 0) 128) (eqb (getD middleSets (getD branchEntries k 0) 0) (getD middles k 0)) (branch-at k h));
+      ix-lt = λ k h. ltb→lt (getD branchEntries k 0) 128
+          (and-left (ltb (getD branchEntries k 0) 128) (eqb (getD middleSets (getD branchEntries k 0) 0) (getD middles k 0)) (branch-at k h));
       nxt-lt = λ k h. next-at k;
-      ix-byte = λ k h. eqb→eq (getD middleSets (getD branchEntries k 0) 0) (getD middles k 0) (and-right (ltb (getD branchEntries k 0) 128) (eqb (getD middleSets (getD branchEntries k 0) 0) (getD middles k 0)) (branch-at k h));
+      ix-byte = λ k h. eqb→eq (getD middleSets (getD branchEntries k 0) 0) (getD middles k 0)
+          (and-right (ltb (getD branchEntries k 0) 128) (eqb (getD middleSets (getD branchEntries k 0) 0) (getD middles k 0)) (branch-at k h));
     }
 
 -- ---- fallbacks: a byte of the state, ranks below 8, the class of the region
@@ -128,6 +130,8 @@ tables-more =
       cost1 = le-refl 96;
       costM = lit≤ tt;
       fb-byte = λ kind p r st a b c d. one-of (byteOf kind p r st) kind st (least-at kind p r st a b c d .0);
-      fb-rank = λ kind p r st j a b c d h. ltb→lt (rankAt (keyOf kind p r st) j) 8 (below 8 (λ (j : ℕ). ltb (rankAt (keyOf kind p r st) j) 8) (least-at kind p r st a b c d .1) j h);
+      fb-rank = λ kind p r st j a b c d h.
+          ltb→lt (rankAt (keyOf kind p r st) j) 8
+          (below 8 (λ (j : ℕ). ltb (rankAt (keyOf kind p r st) j) 8) (least-at kind p r st a b c d .1) j h);
       fb-class = λ kind p r st a b c d. eqb→eq _ _ (least-at kind p r st a b c d .2);
     }

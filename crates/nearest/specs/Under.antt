@@ -25,9 +25,6 @@ pub record Under (x : Float) (B : ℕ) : Type 0 where
   pub fin : T (finite x)
   pub below : posUnits x * U ≤ B + negUnits x * U
 
-pub under-num : {x : Float} {B : ℕ} → Under x B → Num x
-under-num u = inr (record { fit = u .fit; fin = u .fin })
-
 pub near-num : {c : ℕ} {x : Float} {p n e : ℕ} → Near c x p n e → Num x
 near-num a = inr (record { fit = a .fit; fin = a .fin })
 
@@ -61,26 +58,26 @@ under-at x y {B} a h u = record { fit = a .fit; fin = a .fin; below = go (posUni
         omega arith
 
 -- comparisons with infinity
-lt-inf : (x : Float) → T (finite x) → lt infinity x ≡ false
+pub lt-inf : (x : Float) → T (finite x) → lt infinity x ≡ false
 unfolding lt
 lt-inf nan h = refl
 lt-inf (inf false) h = refl
 lt-inf (inf true) h = refl
 lt-inf (fin s m e) h = refl
 
-inf-lt : (x : Float) → T (finite x) → lt x infinity ≡ true
+pub inf-lt : (x : Float) → T (finite x) → lt x infinity ≡ true
 unfolding lt
 inf-lt nan h = absurd h
 inf-lt (inf s) h = absurd h
 inf-lt (fin s m e) h = refl
 
-le-inf : (x : Float) → T (finite x) → le infinity x ≡ false
+pub le-inf : (x : Float) → T (finite x) → le infinity x ≡ false
 unfolding le lt eq
 le-inf nan h = absurd h
 le-inf (inf s) h = absurd h
 le-inf (fin s m e) h = refl
 
-clash : {b : Bool} → b ≡ true → b ≡ false → ⊥
+pub clash : {b : Bool} → b ≡ true → b ≡ false → ⊥
 clash p q = subst T (sym p ∙ q) tt
 
 yes-T : {b : Bool} → b ≡ true → T b
@@ -116,9 +113,3 @@ add-inf-r x a = go x (a .fin)
     go nan h = absurd h
     go (inf s) h = absurd h
     go (fin s m e) h = unfold add in refl
-
--- a sum is infinite, or both of its terms are not
-pub add-num : (x y : Float) → Num x → Num y → (Plain x → Plain y → Plain (add binary64 x y)) → Num (add binary64 x y)
-add-num x y (inl e) n f = inl (subst (λ (z : Float). add binary64 z y ≡ infinity) (sym e) (add-inf-l y n))
-add-num x y (inr a) (inl e) f = inl (subst (λ (z : Float). add binary64 x z ≡ infinity) (sym e) (add-inf-r x a))
-add-num x y (inr a) (inr b) f = inr (f a b)
