@@ -5,6 +5,7 @@ ghost use Prim.Native.Nat.{_<_, _≤_, _+_, _%_};
 ghost use lib.IntN.{pos, negsuc, natAbs};
 ghost use lib.ListN.{getD};
 ghost use lib.Signed.{ltZ};
+ghost use lib.Dec.{ltb};
 ghost use lib.Ieee.{lt, nan};
 ghost use Rattle.rank.specs.Vector as vector;
 ghost use Rattle.rank.specs.Answers.{markOf};
@@ -16,78 +17,6 @@ use search::Coord;
 
 // How far the targets are drawn in, one after the other.
 const SHRINKS: [f64; 8] = [1.0, 0.85, 0.7, 0.55, 0.4, 0.25, 0.1, 0.0];
-
-// The rank marks of o + 4k for k from -8 to 8, 17 for each o, with the members that have a rank beside them.
-const RANKS: [u8; 68] = [
-    15,
-    15,
-    15,
-    15,
-    15,
-    6, // -12
-    4, // -8
-    2, // -4
-    0, // 0
-    1, // 4
-    3, // 8
-    5, // 12
-    7, // 16
-    15,
-    15,
-    15,
-    15,
-    15,
-    15,
-    15,
-    15,
-    7, // -15
-    5, // -11
-    3, // -7
-    1, // -3
-    0, // 1
-    2, // 5
-    4, // 9
-    6, // 13
-    15,
-    15,
-    15,
-    15,
-    15,
-    15,
-    15,
-    15,
-    15,
-    7, // -14
-    5, // -10
-    3, // -6
-    1, // -2
-    0, // 2
-    2, // 6
-    4, // 10
-    6, // 14
-    15,
-    15,
-    15,
-    15,
-    15,
-    15,
-    15,
-    15,
-    15,
-    6, // -13
-    4, // -9
-    2, // -5
-    0, // -1
-    1, // 3
-    3, // 7
-    5, // 11
-    7, // 15
-    15,
-    15,
-    15,
-    15,
-    15,
-];
 
 // The member o + 4k of one k: its rank mark, its weight, its squared distance to the target.
 struct Slot {
@@ -108,18 +37,23 @@ pub struct Rows {
 
 // ---- one slot. k is counted from -1048576 on: kk = k + 1048576.
 
-// The rank mark of o + 4k; past the table's reach there is none.
+// The mark of a rank: 15 where it is past the lookup's reach.
+fn mark(r: u32) -> u8
+    ensures { λ x. ⌜ (x ≡ cond (ltb r 8) r 15) × (x < 16) ⌝ }
+{
+    if r < 8 { r as u8 } else { 15 }
+}
+
+// The rank mark of o + 4k: half the magnitude, the member above zero before the one as far below it.
 fn rank_at(o: u32, kk: u32) -> u8
-    requires { ⌜ o < 4 ⌝ }
+    requires { ⌜ (o < 4) × (kk < 2097152) ⌝ }
     ensures { λ r. ⌜ (r ≡ markOf (member o (unbiased kk))) × (r < 16) ⌝ }
 {
-    if kk < 1048568 {
-        return 15;
+    let a = o + 4 * kk;
+    if a <= 4194304 {
+        return mark((4194304 - a) / 2);
     }
-    if kk <= 1048584 {
-        return RANKS[(o * 17 + (kk - 1048568)) as usize];
-    }
-    15
+    mark((a - 4194305) / 2)
 }
 
 fn weight(r: u8) -> u16
@@ -253,9 +187,13 @@ fn dists(e: [Coord; 128]) -> [f64; 640]
     ensures { λ r. ⌜ r ≡ distsOf e ⌝ }
 {
     let mut v = [0.0f64; 640];
-    for i in 0..640usize {
-        let c = e[i / 5];
-        v[i] = c.d[i % 5];
+    for i in 0..128usize {
+        let c = e[i];
+        v[5 * i] = c.d[0];
+        v[5 * i + 1] = c.d[1];
+        v[5 * i + 2] = c.d[2];
+        v[5 * i + 3] = c.d[3];
+        v[5 * i + 4] = c.d[4];
     }
     v
 }
@@ -264,9 +202,13 @@ fn weights(e: [Coord; 128]) -> [u16; 640]
     ensures { λ r. ⌜ r ≡ weightsOf e ⌝ }
 {
     let mut v = [0u16; 640];
-    for i in 0..640usize {
-        let c = e[i / 5];
-        v[i] = c.w[i % 5];
+    for i in 0..128usize {
+        let c = e[i];
+        v[5 * i] = c.w[0];
+        v[5 * i + 1] = c.w[1];
+        v[5 * i + 2] = c.w[2];
+        v[5 * i + 3] = c.w[3];
+        v[5 * i + 4] = c.w[4];
     }
     v
 }
@@ -275,9 +217,13 @@ fn ranks(e: [Coord; 128]) -> [u8; 640]
     ensures { λ r. ⌜ r ≡ ranksOf e ⌝ }
 {
     let mut v = [0u8; 640];
-    for i in 0..640usize {
-        let c = e[i / 5];
-        v[i] = c.rank[i % 5];
+    for i in 0..128usize {
+        let c = e[i];
+        v[5 * i] = c.rank[0];
+        v[5 * i + 1] = c.rank[1];
+        v[5 * i + 2] = c.rank[2];
+        v[5 * i + 3] = c.rank[3];
+        v[5 * i + 4] = c.rank[4];
     }
     v
 }

@@ -1,7 +1,7 @@
 -- The absolute error of each operation. Its operands are near exact numbers, its result is below 2 ^ b in size, and it is near the exact
 -- result: the operands' errors go through, and the rounding adds halfUlp b. Assumes nothing.
 use mathlib.Core.Path.{_≡_, refl, sym, ap, ap₂, _∙_, subst}
-use mathlib.Core.Bool.{Bool, true, false, cond, not}
+use mathlib.Core.Bool.{Bool, true, false, cond, not, true≢false}
 use Prim.Native.Nat.{ℕ, zero, suc, _+_, _-_, _*_, _^_, _≤_, _<_}
 use native.Mathlib.Nat.{
   le-refl,
@@ -34,11 +34,24 @@ use lib.Dec.{T, ltb, eqb, ltb→lt, nltb→le, eqb·suc-zero, lit≤}
 use lib.Pow.{pow-pos}
 use lib.Ieee.{Float, nan, inf, fin, binary64, up, down, unlike, fits, round, sum, add, sub, mul, div}
 use lib.Ieee.Fits.{down-pos, up-pos}
-use lib.Ieee.Scale.{finite}
+use lib.Ieee.Order.{round-mono}
+use lib.Ieee.Scale.{finite, round-under}
 use Rattle.laws.specs.Whole.{gap}
 use Rattle.float.specs.Value.{U, magUnits, isMinus, posUnits, negUnits, four64}
-use Rattle.float.specs.Exact.{has-value, no-digits, scaled, neg-mag, mag-parts, unlike-false}
-use Rattle.float.specs.Error.{halfUlp, Rounded, round-units, rounded-cancel}
+use Rattle.float.specs.Exact.{
+  has-value,
+  no-digits,
+  scaled,
+  neg-mag,
+  parts,
+  mag-parts,
+  unlike-false,
+  digits,
+  mag-lt,
+  round-exactly,
+}
+use Rattle.float.specs.Compare.{le-is}
+use Rattle.float.specs.Error.{halfUlp, Rounded, round-grid, round-units, rounded-cancel}
 use Rattle.float.specs.Near.{Near, near-more, near-parts, near-scale, near-neg, near-mag-plain, mag-near-plain, rounded-near, near-signed}
 
 -- ---- x + y
@@ -332,3 +345,58 @@ near-quarter {x} {p} {n} {e} b u B h =
     let s : Near 4 z (posUnits x) (negUnits x) (halfUlp b * 4) =
     subst (λ (t : Bool). Near 4 z (cond t 0 (magUnits x)) (cond t (magUnits x) 0) (halfUlp b * 4)) (unlike-false (isMinus x)) (rounded-near r) in
     record { fit = s .fit; fin = s .fin; lo = omega (arith, u, s); hi = omega (arith, u, s) }
+
+-- ---- x + y of two that are not negative is not negative, and no smaller than either
+-- a fraction that is no smaller than a double x is rounded to one that is no smaller
+round-grows : (x : Float) (low num den : ℕ) → T (fits binary64 x) → T (finite x) → isMinus x ≡ false → 0 < den
+    → low * U ≡ magUnits x * den → low ≤ num → T (finite (round binary64 false num den))
+    → (isMinus (round binary64 false num den) ≡ false) × (magUnits x ≤ magUnits (round binary64 false num den))
+round-grows x low num den f i s D e h j =
+    let r = round binary64 false num den in
+    let q = round binary64 false low den in
+    let d = digits x f i in
+    let is : magUnits x ≡ d .m * 2 ^ d .j = d .mag in
+    let a =
+    round-exactly false low den (d .m) (d .j) D (d .small) (subst (λ (g : ℕ). g < 2 ^ 2098) is (mag-lt x f i)) (e ∙ ap (λ (g : ℕ). g * den) is) in
+    let b = round-grid false num den (round-under binary64 num den j) in
+    let l = le-is q r (a .fit) (b .fit) (a .fin) j (round-mono binary64 low den num den D D (mul-le-mul-right den h)) in
+    let u = parts q false (a .sign) in
+    let w = parts r false (b .sign) in (
+      b .sign,
+      go (posUnits q) (negUnits q) (posUnits r) (negUnits r) (magUnits q) (magUnits r) (magUnits x) (u .0) (u .1) (w .0) (w .1) (a .mag ∙ sym is) l,
+    )
+  where
+    go : (pq nq pr nr mq mr m : ℕ) → pq ≡ mq → nq ≡ 0 → pr ≡ mr → nr ≡ 0 → mq ≡ m → pq + nr ≤ pr + nq → m ≤ mr
+    go pq nq pr nr mq mr m a b c d e h = omega arith
+
+pub record Grown (x y z : Float) : Type 0 where
+  pub sign : isMinus z ≡ false
+  pub left : magUnits x ≤ magUnits z
+  pub right : magUnits y ≤ magUnits z
+
+pub add-grows : (x y : Float) → T (fits binary64 x) → T (fits binary64 y) → T (finite x) → T (finite y) → isMinus x ≡ false → isMinus y ≡ false
+    → T (finite (add binary64 x y)) → Grown x y (add binary64 x y)
+unfolding add sum
+add-grows nan y fx fy ix iy sx sy h = absurd ix
+add-grows (inf s) y fx fy ix iy sx sy h = absurd ix
+add-grows (fin s m e) nan fx fy ix iy sx sy h = absurd iy
+add-grows (fin s m e) (inf t) fx fy ix iy sx sy h = absurd iy
+add-grows (fin true m e) (fin t n d) fx fy ix iy sx sy h = absurd (true≢false sx)
+add-grows (fin false m e) (fin true n d) fx fy ix iy sx sy h = absurd (true≢false sy)
+add-grows (fin false m e) (fin false n d) fx fy ix iy sx sy h =
+    let x = fin false m e in
+    let y = fin false n d in
+    let a = m * up e * down d in
+    let b = n * up d * down e in
+    let c = down e * down d in
+    let C = mul-pos (down-pos e) (down-pos d) in
+    let p = round-grows x a (a + b) c fx tt refl C (scaled (m * up e) U (magUnits x) (down e) (down d) (has-value x fx tt .1)) (over a b) h in
+    let q = round-grows y b (a + b) c fy tt refl C
+    (scaled (n * up d) U (magUnits y) (down d) (down e) (has-value y fy tt .1) ∙ ap (λ (z : ℕ). magUnits y * z) (mul-comm (down d) (down e))) (under a b) h in
+    record { sign = p .0; left = p .1; right = q .1 }
+  where
+    over : (a b : ℕ) → a ≤ a + b
+    over a b = omega arith
+
+    under : (a b : ℕ) → b ≤ a + b
+    under a b = omega arith

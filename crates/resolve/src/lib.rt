@@ -64,7 +64,7 @@ fn infeasible() -> Entry
 }
 
 // The bound of class r.
-fn class_bound(r: usize) -> Closed
+pub fn class_bound(r: usize) -> Closed
     ensures { λ x. ⌜ x ≡ classOf tables r ⌝ }
 {
     if r == 0 {
@@ -80,7 +80,7 @@ fn class_bound(r: usize) -> Closed
 }
 
 // The bound of a middle section.
-fn mixed_bound() -> Closed
+pub fn mixed_bound() -> Closed
     ensures { λ r. ⌜ r ≡ tables .mixed ⌝ }
 {
     Closed {

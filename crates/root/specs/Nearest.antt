@@ -1,6 +1,6 @@
 -- The computed root is the nearest double, and no other double is. Assumes nothing.
 use mathlib.Core.Path.{_≡_, refl, sym, ap, ap₂, _∙_, subst}
-use mathlib.Core.Bool.{Bool, true, false, cond, not}
+use mathlib.Core.Bool.{Bool, true, false, cond, not, true≢false}
 use mathlib.Core.Logic.{inl, inr}
 use Prim.Native.Nat.{ℕ, zero, suc, _+_, _-_, _*_, _/_, _^_, _≤_, _<_, zero-le}
 use native.Mathlib.Nat.{
@@ -43,8 +43,8 @@ use lib.Ieee.{Float, nan, inf, fin, binary64, fits, size, round}
 use lib.Ieee.Digits.{size-lt, size-le, size-reaches}
 use lib.Ieee.Scale.{finite}
 use Rattle.laws.specs.Order.{le-or-lt}
-use Rattle.float.specs.Value.{U, magUnits}
-use Rattle.float.specs.Exact.{Exactly, Digits, digits, mag-lt, same-units, round-exactly, zero-fits, some-digits}
+use Rattle.float.specs.Value.{U, magUnits, isMinus}
+use Rattle.float.specs.Exact.{Exactly, Digits, digits, mag-lt, same-units, round-exactly, zero-fits, no-digits, some-digits}
 use Rattle.root.specs.Root.{NearestRoot, twiceOr, wholeRoot, nearer, rootUnits, rootOf, rooted}
 
 -- ---- no second double is the nearest
@@ -383,3 +383,42 @@ rooted-finite (fin true (suc m) e) f = (zero-fits, tt)
 rooted-finite (fin false (suc m) e) f =
     let r = root-nearest (fin false (suc m) e) f tt (some-digits false m e) in
     (r .fit, r .fin)
+
+-- ---- the root of what is a double's square or more is that double or more, and so the other way round
+module _ (x r y : Float) (n : NearestRoot x r) (f : T (fits binary64 y)) (i : T (finite y)) where
+  pub root-from : magUnits y * magUnits y ≤ magUnits x * U → magUnits y ≤ magUnits r
+  root-from h =
+      let l = magUnits r in
+      let m = magUnits y in
+      le-of-suc-le-suc (lt-of-not-le (λ (g : suc l ≤ m). clash (m * m) (magUnits x * U) ((m + l) * (m + l)) h (n .above y f i g) (sq-le l m g)))
+    where
+      sq-le : (l m : ℕ) → l < m → (m + l) * (m + l) ≤ m * m * 4
+      sq-le l m g =
+          let a : m + l ≤ m * 2 = omega arith in
+          le-trans (mul-le-mul a a) (le-of-eq (sq-twice m))
+
+      clash : (a b c : ℕ) → a ≤ b → 4 * b < c → c ≤ a * 4 → ⊥
+      clash a b c p q r = omega arith
+
+  pub root-upto : magUnits x * U ≤ magUnits y * magUnits y → magUnits r ≤ magUnits y
+  root-upto h =
+      let l = magUnits r in
+      let m = magUnits y in
+      le-of-suc-le-suc (lt-of-not-le (λ (g : suc m ≤ l). clash (m * m) (magUnits x * U) ((m + l) * (m + l)) h (n .below y f i g) (sq-ge l m g)))
+    where
+      sq-ge : (l m : ℕ) → m < l → m * m * 4 ≤ (m + l) * (m + l)
+      sq-ge l m g =
+          let a : m * 2 ≤ m + l = omega arith in
+          le-trans (le-of-eq (sym (sq-twice m))) (mul-le-mul a a)
+
+      clash : (a b c : ℕ) → b ≤ a → c < 4 * b → a * 4 ≤ c → ⊥
+      clash a b c p q r = omega arith
+
+-- a finite number above zero has the nearest double as its root
+pub rooted-nearest : (x : Float) → T (fits binary64 x) → T (finite x) → isMinus x ≡ false → 0 < magUnits x → NearestRoot x (rooted x .root)
+unfolding rooted
+rooted-nearest nan f i s p = absurd i
+rooted-nearest (inf s) f i t p = absurd i
+rooted-nearest (fin s zero e) f i t p = absurd (lt-irrefl 0 (subst (λ (z : ℕ). 0 < z) (no-digits s e) p))
+rooted-nearest (fin true (suc m) e) f i t p = absurd (true≢false t)
+rooted-nearest (fin false (suc m) e) f i t p = root-nearest (fin false (suc m) e) f tt p

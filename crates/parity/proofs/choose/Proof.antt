@@ -1,0 +1,12 @@
+-- `parity::choose` meets its contract: by the two cases of its test. Assumes nothing.
+use Rattle.parity.proofs.choose.Statement.{statement}
+use Rattle.parity.proofs.choose.Tie as tie
+
+returns : tie.Need-returns
+returns c = rw (c .if1 .taken)
+
+returns-2 : tie.Need-returns-2
+returns-2 c = rw (c .if1 .left)
+
+pub choose-spec : {M : Type 1} → statement M
+choose-spec = tie.close (tie.spec returns returns-2)
