@@ -28,7 +28,8 @@ use Rattle.search.specs.Block.{winnerFor, pointFrom}
 use Rattle.members.specs.Accepted.{Accepted, call-accepted}
 use Rattle.members.specs.Members.{has-word}
 use Rattle.encoder.specs.declared.Code.{Code}
-use Rattle.encoder.specs.Encode.{zeroCode, codeOf, codeFor, numberAt, encodeAtOver, encodeAtScale, higher, twoScales, scaledBack, codeAt, numberOf, encodeOver, encodeWith}
+use Rattle.encoder.specs.Encode.{zeroCode, codeOf, codeFor, numberAt, encodeAtOver, encodeAtScale}
+use Rattle.encoder.specs.Encode.{higher, twoScales, scaledBack, codeAt, numberOf, encodeOver, encodeWith}
 use Rattle.encoder.specs.Numbers.{zero-says, at-accepted, is-accepted}
 use Rattle.demands.specs.Targets.{accepted-at, first-fits, second-fits, quotients-fit}
 
