@@ -2,12 +2,10 @@
 -- `T b` (lib.Dec) holds exactly where b is true. Assumes nothing.
 use mathlib.Core.Path.{_≡_, refl, sym, subst}
 use mathlib.Core.Bool.{Bool, true, false, cond, _&&_, _||_, Bool·beq}
-use mathlib.Core.Logic.{_⊎_, inl, inr, ⊎-elim}
+use mathlib.Core.Logic.{_⊎_, inl, inr}
 use Prim.Native.Nat.{ℕ, zero, suc, _<_}
 use native.Mathlib.Nat.{not-suc-le-zero, le-of-suc-le-suc}
-use native.Mathlib.Omega.{arith}
-use borrow.Author.Tests.{ltb-true, ltb-false, eqb-true, eqb-false}
-use lib.Dec.{T, ltb, eqb, eqb-refl}
+use lib.Dec.{T, eqb, eqb-refl}
 
 -- ---- joined tests
 pub and-left : (a b : Bool) → T (a && b) → T a
@@ -90,24 +88,6 @@ pub says-by : (b : Bool) (P : Type 0) → (b ≡ true → P) → (b ≡ false �
 unfolding Says
 says-by true P p q = p refl
 says-by false P p q = q refl
-
-pub says-or : (p q : Bool) (P Q : Type 0) → Says p P → Says q Q → Says (p || q) (P ⊎ Q)
-unfolding Says
-says-or true q P Q x y = inl x
-says-or false true P Q x y = inr y
-says-or false false P Q x y = ⊎-elim x y
-
-pub says-and : (p q : Bool) (P Q : Type 0) → Says p P → Says q Q → Says (p && q) (P × Q)
-unfolding Says
-says-and true true P Q x y = (x, y)
-says-and true false P Q x y = λ w. y (w .1)
-says-and false q P Q x y = λ w. x (w .0)
-
-pub says-lt : (x y : ℕ) → Says (ltb x y) (x < y)
-says-lt x y = says-by (ltb x y) (x < y) (ltb-true x y) (λ e h. omega (arith, ltb-false x y e))
-
-pub says-eq : (x y : ℕ) → Says (eqb x y) (x ≡ y)
-says-eq x y = says-by (eqb x y) (x ≡ y) (eqb-true x y) (eqb-false x y)
 
 -- ---- the test passes at 0, 1, .., n - 1
 abbrev pub upto : ℕ → (ℕ → Bool) → Bool

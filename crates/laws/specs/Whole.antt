@@ -5,8 +5,7 @@ use Prim.Native.Nat.{ℕ, zero, suc, _+_, _*_, _-_, _/_, _%_, _^_, _<_, _≤_}
 use native.Mathlib.Omega.{arith}
 use borrow.Author.Tests.{lt-ltb, le-ltb, ltb-true, ltb-false}
 use lib.Dec.{T, ltb, eqb, eqb→eq}
-use lib.IntN.{ℤ, pos, negsuc, negℤ, subℕ, _+ℤ_, _*ℤ_}
-use lib.Signed.{mag, shrZ}
+use lib.IntN.{ℤ, pos, negsuc, subℕ, _+ℤ_}
 use mir.Syntax.{w32}
 use mir.Val.{SFits, ofZ}
 
@@ -60,32 +59,6 @@ parity-add (negsuc a) (negsuc b) = omega arith
 pub low2 : (y : ℤ) → SFits w32 y → ofZ w32 y % 2 ^ 2 ≡ modZ y 4
 low2 (pos n) f = refl
 low2 (negsuc n) f = omega arith
-
-pub shr-div : (y : ℤ) (m : ℕ) → shrZ y m ≡ divZ y m
-shr-div (pos n) m = refl
-shr-div (negsuc n) m = refl
-
--- ---- magnitudes of sums and products
-mag-cond : (b : Bool) (x y : ℤ) (k : ℕ) → (b ≡ true → mag x ≤ k) → (b ≡ false → mag y ≤ k) → mag (cond b x y) ≤ k
-mag-cond true x y k p q = p refl
-mag-cond false x y k p q = q refl
-
-mag-sub : (a b : ℕ) → mag (subℕ a b) ≤ a + b
-mag-sub a b = mag-cond (ltb a b) (negsuc (b - suc a)) (pos (a - b)) (a + b) (λ e. omega arith) (λ e. omega arith)
-
-pub mag-add : (a b : ℤ) → mag (a +ℤ b) ≤ mag a + mag b + 1
-mag-add (pos a) (pos b) = omega arith
-mag-add (pos a) (negsuc b) = omega (arith, mag-sub a (suc b))
-mag-add (negsuc a) (pos b) = omega (arith, mag-sub b (suc a))
-mag-add (negsuc a) (negsuc b) = omega arith
-
-mag-neg : (n : ℕ) → mag (negℤ (pos n)) ≤ n
-mag-neg zero = omega arith
-mag-neg (suc n) = omega arith
-
-pub mag-mul4 : (k : ℤ) → mag (pos 4 *ℤ k) ≤ 4 * mag k + 4
-mag-mul4 (pos n) = omega arith
-mag-mul4 (negsuc n) = omega (arith, mag-neg (4 * suc n))
 
 -- ---- a number as the difference of its two parts, of which one is 0; and how far two numbers are apart
 abbrev pub posPart : ℤ → ℕ

@@ -259,8 +259,8 @@ module _ (ts : List Float) (p c : ℕ) (P0 : p < 2) (T0 : (j : ℕ) → j < 8 �
           at false = slot2 (kJ j)
 
       go : (b : Bool) → (T b → parTo eR 8 ≡ r) → eqb (parTo eR 8) r ≡ b
-          → sumTo (λ j. sqK (oJ j) (slotK (kJ j) (slotOf jW (cond b 2 (towardOf (coordAt eR jW .dir))) j)) (tJ j)) 8 ≤ sumTo
-          (λ j. sqK (oJ j) (k j) (tJ j)) 8 + W3
+          → sumTo (λ j. sqK (oJ j) (slotK (kJ j) (slotOf jW (cond b 2 (towardOf (coordAt eR jW .dir))) j)) (tJ j)) 8
+          ≤ sumTo (λ j. sqK (oJ j) (k j) (tJ j)) 8 + W3
       go true e q = le-trans (le-of-eq
           (sum-same (λ j. sqK (oJ j) (slotK (kJ j) (slotOf jW 2 j)) (tJ j)) (λ j. sqK (oJ j) (kJ j) (tJ j)) 8
           (λ j l. ap (λ (z : ℤ). sqK (oJ j) z (tJ j)) (off j)))) (base-plain k)

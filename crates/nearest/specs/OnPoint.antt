@@ -147,8 +147,8 @@ module _ (y : List ℤ) (W : HasWord y) where
 -- a small whole number over 1 is itself, and not above a million
 plain : ℤ → Bool
 plain v =
-    eqb (toBits binary64 (div binary64 (ofInt binary64 v) one64)) (toBits binary64 (ofInt binary64 v)) && not
-    (lt million64 (absOf (ofInt binary64 v)))
+    eqb (toBits binary64 (div binary64 (ofInt binary64 v) one64)) (toBits binary64 (ofInt binary64 v))
+    && not (lt million64 (absOf (ofInt binary64 v)))
 
 all-plain : T (upto 11 (λ n. plain (pos n) && plain (negsuc n)))
 unfolding plain div ofInt toBits lt absOf
@@ -179,8 +179,8 @@ not-above v h =
 
 module _ (y : List ℤ) (W : HasWord y) where
   over-one-at : (j : ℕ) → j < 24 → div binary64 (getD (doubles y) j nan) one64 ≡ getD (doubles y) j nan
-  over-one-at j h = ap (λ (x : Float). div binary64 x one64) (double-at y W j h) ∙ over-one (getD y j (pos 0)) (small y W j h)
-      ∙ sym (double-at y W j h)
+  over-one-at j h =
+      ap (λ (x : Float). div binary64 x one64) (double-at y W j h) ∙ over-one (getD y j (pos 0)) (small y W j h) ∙ sym (double-at y W j h)
 
   pub at-scale-one : Accepted (doubles y) one64
   at-scale-one =
@@ -241,8 +241,9 @@ all-answered answer d y W = d (doubles y) (on-target y W) y W (alone y W)
 -- so none that searches parity 0 and fakes parity 1 does: none whose answers are all even
 pub no-fake : (answer : List Float → List ℤ) → ((t : List Float) → parityOf (getD (answer t) 0 (pos 0)) ≡ 0) → Meets answer → ⊥
 unfolding tab
-no-fake answer even d = odd (sym
-    (ap (λ (l : List ℤ). parityOf (getD l 0 (pos 0))) (all-answered answer d (pointOf 1) (decodes 1) ∙ P .1)) ∙ even (doubles (pointOf 1)))
+no-fake answer even d =
+    let one = ap (λ (l : List ℤ). parityOf (getD l 0 (pos 0))) (all-answered answer d (pointOf 1) (decodes 1) ∙ P .1) in
+    odd (sym one ∙ even (doubles (pointOf 1)))
   where
     odd : _≡_ {A = ℕ} 1 0 → ⊥
     odd e = omega arith

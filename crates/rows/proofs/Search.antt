@@ -14,6 +14,10 @@ use Rattle.rows.specs.Key.{key}
 use Rattle.rows.specs.Rule.{row-class}
 use Rattle.rows.specs.Order.{row-key}
 
+-- a row read from the table as it was lent
+pub read : {t : List ℕ} (i : ℕ) → t ≡ rows → getD t i 0 ≡ getD rows i 0
+read i e = ap (λ (v : List ℕ). getD v i 0) e
+
 -- of the 2 ^ d rows from lo on, all of the class of w, one is w if any row is
 pub record Around (w lo d : ℕ) : Type 0 where
   pub start : 2048 * class (unpack 8 w) ≤ lo
@@ -89,6 +93,14 @@ last w lo a = (omega (arith, a .stop, two (unpack 8 w)), λ i h e. omega (arith,
   where
     two : (v : List ℕ) → class v < 2
     two v = omega arith
+
+-- the middle row of what is left is a row
+pub middle-in : (w lo d b : ℕ) → Around w lo d → 0 < d → b ≡ 2 ^ (d - 1) → lo + b < 4096
+middle-in w lo d b a left half =
+    subst (λ (n : ℕ). lo + n < 4096) (sym half) (middle-lt w lo (d - 1) (subst (λ (n : ℕ). Around w lo n) one-less a))
+  where
+    one-less : d ≡ suc (d - 1)
+    one-less = omega arith
 
 -- ---- one turn of the loop: b is half of what is left, k the key of w, x the key of the row at lo + b
 module _ (w lo d b k x : ℕ) (a : Around w lo d) (left : 0 < d) (half : b ≡ 2 ^ (d - 1)) (is-key : k ≡ key (unpack 8 w))

@@ -28,12 +28,20 @@ pub enum Seated {
     Nothing,
 }
 
-// Row `i`, packed; 0 past the table. The only function that reads the constant.
+// The table. The only function that reads the constant, which is made anew at each call: who looks at many rows asks once and lends it on.
+pub fn rows() -> [u32; 4096]
+    ensures { λ r. ⌜ r ≡ rows ⌝ }
+{
+    table::TABLE
+}
+
+// Row `i`, packed; 0 past the table.
 pub fn row(i: usize) -> u32
     ensures { λ r. ⌜ r ≡ getD rows i 0 ⌝ }
 {
     if i < ROWS as usize {
-        return table::TABLE[i];
+        let t = rows();
+        return t[i];
     }
     0
 }
@@ -102,7 +110,8 @@ fn bit(d: u32) -> usize
 }
 
 // The only number that the packed row can have in the table: a binary search among the rows of its class.
-fn place_of(w: u32) -> usize
+fn place_of(t: &[u32; 4096], w: u32) -> usize
+    requires { ⌜ now t ≡ rows ⌝ }
     ensures { λ r. ⌜ (r < 4096) × ((i : ℕ) → i < 4096 → getD rows i 0 ≡ w → i ≡ r) ⌝ }
 {
     let k = key_of(w);
@@ -111,7 +120,7 @@ fn place_of(w: u32) -> usize
     while 0 < d {
         d -= 1;
         let m = lo + bit(d);
-        if key_of(row(m)) <= k {
+        if key_of(t[m]) <= k {
             lo = m;
         }
     }
@@ -122,8 +131,9 @@ fn place_of(w: u32) -> usize
 pub fn find(w: u32) -> u32
     ensures { λ r. ⌜ r ≡ findOf w ⌝ }
 {
-    let i = place_of(w);
-    if row(i) == w {
+    let t = rows();
+    let i = place_of(&t, w);
+    if t[i] == w {
         return i as u32;
     }
     ROWS

@@ -11,8 +11,9 @@ use Rattle.word.specs.Word.{Narrow}
 use Rattle.word.specs.declared.Fields.{Fields}
 use Rattle.rank.specs.Coord.{valOf}
 use Rattle.rank.specs.Section.{pointAt}
-use Rattle.rows.specs.Table.{rowRanks, middleClass, middleRow}
+use Rattle.rows.specs.Table.{rowRanks, middleRow}
 use Rattle.rows.specs.Rule.{row-length}
+use Rattle.rows.specs.Middle.{middle-row-class}
 use Rattle.trellis.specs.Trellis.{prefixOf, middleOf, nextOf, suffixOf, branchOf}
 use Rattle.trellis.specs.Path.{prefix-lt, middle-lt}
 use Rattle.trellis.specs.Back.{path-word}
@@ -81,9 +82,9 @@ module _ (f : Fields) (n : Narrow f) where
       spread a b c = omega arith
 
   -- the same from what each call ensures
-  pub laid : {d m c1 c3 : ℕ} {e : Edge} {y1 y2 y3 : List ℤ} → d ≡ middleClass (f .i2) → m ≡ middleRow (f .i2) → c1 ≡ prefixOf (f .s8) (f .b1)
+  pub laid : {m c1 c3 : ℕ} {e : Edge} {y1 y2 y3 : List ℤ} → m ≡ middleRow (f .i2) → c1 ≡ prefixOf (f .s8) (f .b1)
       → e ≡ branchOf (f .s8) (f .b2) → c3 ≡ suffixOf (e .s16) (f .b3) → y1 ≡ pointAt (f .p) c1 (rowRanks (2048 * f .r + f .i1))
-      → y2 ≡ pointAt (f .p) (e .byte) (rowRanks m) → y3 ≡ pointAt (f .p) c3 (rowRanks (2048 * ((f .p + f .r + d) % 2) + f .i3))
+      → y2 ≡ pointAt (f .p) (e .byte) (rowRanks m) → y3 ≡ pointAt (f .p) c3 (rowRanks (2048 * ((f .p + f .r + m / 2048) % 2) + f .i3))
       → y1 ++ (y2 ++ y3) ≡ trioPoint f
   unfolding thirdClass
-  laid ed em e1 ee e3 s1 s2 s3 = rw (s1, s2, s3, e3, ee, e1, em, ed) joined
+  laid em e1 ee e3 s1 s2 s3 = rw (s1, s2, s3, e3, ee, e1, em, middle-row-class (f .i2) (n .i2)) joined

@@ -27,7 +27,8 @@ use Rattle.trellis.specs.Trellis.{labelOf}
 use Rattle.tetra.specs.Lattice.{trio, Codeword, section, sectionRanks, inOwnClass, HasWord}
 use Rattle.tetra.specs.Encode.{refused, parityAt, labelFor, fieldsBy, fieldsFor, encodeOf}
 use Rattle.tetra.specs.Orders.{at-uniform, uniform-at, parity-trio}
-use Rattle.tetra.specs.WordLaws.{section-size, section-length, has-encodable, label-code, sum-classes, row0, row1, row2, label-lt, third-owes, fields-narrow}
+use Rattle.tetra.specs.WordLaws.{section-size, section-length, has-encodable, label-code, sum-classes}
+use Rattle.tetra.specs.WordLaws.{row0, row1, row2, label-lt, third-owes, fields-narrow}
 use Rattle.tetra.specs.Demand2.{encode-in, refuses}
 use Rattle.tetra.specs.declared.Encoded.{Encoded}
 

@@ -4,9 +4,10 @@ use mathlib.Core.Path.{_≡_, refl, ap, ap₂, sym, subst, _∙_}
 use mathlib.Core.Bool.{Bool, true, false}
 use mathlib.Core.Logic.{_↔_}
 use mathlib.Core.List.{List}
-use Prim.Native.Nat.{ℕ, _%_, _^_, _<_, _≤_}
+use Prim.Native.Nat.{ℕ, _+_, _*_, _/_, _%_, _^_, _<_, _≤_}
 use native.Mathlib.Nat.{mod-eq-of-lt}
 use native.Mathlib.Omega.{arith}
+use lib.Pow.{shr-shr}
 use lib.Dec.{T}
 use lib.IntN.{ℤ, pos, natAbs}
 use lib.ListN.{length, getD}
@@ -14,14 +15,15 @@ use Rattle.laws.specs.Tests.{is-true, is-false}
 use Rattle.word.specs.Word.{fieldsOf, wordOf}
 use Rattle.word.specs.Laws.{split-narrow, split-join, no-gain-split, no-gain-lt}
 use Rattle.word.specs.declared.Fields.{Fields}
+use Rattle.rank.specs.Section.{bitsOf}
 use Rattle.trellis.specs.Trio.{places}
 use Rattle.trellis.specs.TrioLaws.{trio-fits}
-use Rattle.tetra.specs.Lattice.{HasWord}
-use Rattle.tetra.specs.Tetra.{trioPoint, natural, trioPointOf, pointOf}
+use Rattle.tetra.specs.Lattice.{trio, HasWord}
+use Rattle.tetra.specs.Tetra.{codewordAt, trioPoint, natural, trioPointOf, pointOf, patternsOf}
 use Rattle.tetra.specs.Encode.{noWord, refused, encodable, fieldsFor, encodeOf}
 use Rattle.tetra.specs.Orders.{natural-length, natural-at, natural-trio}
-use Rattle.tetra.specs.PointLaws.{point-small}
-use Rattle.tetra.specs.WordLaws.{decoded, has-encodable, encodable-has, fields-narrow, fields-point, fields-back}
+use Rattle.tetra.specs.PointLaws.{bits-are, point-small}
+use Rattle.tetra.specs.WordLaws.{trio-of, decoded, has-encodable, encodable-has, fields-narrow, fields-point, fields-back}
 use Rattle.tetra.specs.declared.Encoded.{Encoded}
 
 -- ---- every word decodes to 24 coordinates, of magnitude 10 at most, that are a lattice point and have a word
@@ -37,6 +39,14 @@ coordinate-small w i h =
 
 pub decodes : (w : ℕ) → HasWord (pointOf w)
 decodes = decoded
+
+-- and whose bits are the bytes that `patterns` answers
+pub patterns-are : (w : ℕ) → patternsOf w .c1 + 256 * patternsOf w .c2 + 65536 * patternsOf w .c3 ≡ bitsOf (trio (pointOf w))
+unfolding patternsOf
+patterns-are w =
+    let c = codewordAt (fieldsOf w) in
+    let e : c % 256 + 256 * (c / 256 % 256) + 65536 * (c / 65536) ≡ c = omega (arith, shr-shr c 8 8) in
+    e ∙ sym (ap bitsOf (trio-of w) ∙ bits-are (fieldsOf w) (split-narrow w))
 
 -- ---- what is answered: the word where the tests pass, and the refusal elsewhere
 pub encode-in : (y : List ℤ) → T (encodable y) → encodeOf y ≡ record { number = 0; word = wordOf (fieldsFor y) }
@@ -75,6 +85,10 @@ accepts y h =
           ap (λ (f : Fields). natural (trioPoint f)) (split-join (fieldsFor y) (fields-narrow y h)) ∙ ap natural (fields-point y h)
           ∙ natural-trio y (h .point .size);
     })
+
+-- so a word's gain and its bits 48 and up say nothing of the point
+pub gain-ignored : (w : ℕ) → pointOf (w % 2 ^ 47) ≡ pointOf w
+gain-ignored w = ap (λ (r : Encoded). pointOf (r .word)) (sym (round-trip w)) ∙ accepts (pointOf w) (decodes w) .back
 
 -- ---- every other point is refused
 pub refuses : (y : List ℤ) → length y ≡ 24 → (HasWord y → ⊥) → encodeOf y ≡ refused
@@ -118,7 +132,8 @@ pub onto : (y : List ℤ) → HasWord y → (w : ℕ) × (w < 2 ^ 47) × (pointO
 onto y h = let a = accepts y h in (encodeOf y .word, a .small, a .back)
 
 -- ---- no second answer fits: whoever accepts the points that have a word, and refuses all others, answers as `encode` does
-pub only-answer : (y : List ℤ) → length y ≡ 24 → (r : Encoded) → (HasWord y → Accepted y r) → ((HasWord y → ⊥) → r ≡ refused) → r ≡ encodeOf y
+pub only-answer : (y : List ℤ) → length y ≡ 24 → (r : Encoded) → (HasWord y → Accepted y r) → ((HasWord y → ⊥) → r ≡ refused)
+    → r ≡ encodeOf y
 only-answer y e r keeps turns = go (has-or-not y e)
   where
     same : (a b : Encoded) → a .number ≡ b .number → a .word ≡ b .word → a ≡ b

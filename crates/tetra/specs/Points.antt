@@ -74,7 +74,8 @@ pub P :
     × (encodeOf (point (at (pos 2) (0 ∷ []) (all (pos 0)))) ≡ refusedWith 5)
     × (encodeOf (point (at (pos 1) (0 ∷ []) (all (pos 0)))) ≡ refusedWith 5)
     × (encodeOf (point (at (pos 12) (0 ∷ []) (at (pos 4) (1 ∷ []) (all (pos 0))))) ≡ refusedWith 5)
-unfolding tab word.cut valOf rankOf pointAt uniform bitsOf kSum rows rowRanks middleClass middleRow columns backColumns order places trio codewordAt thirdClass ranksAt trioPoint natural trioPointOf pointOf oneParity inBounds rightSum byColumns
+unfolding tab word.cut valOf rankOf pointAt uniform bitsOf kSum rows rowRanks middleClass middleRow columns backColumns order places
+    trio codewordAt thirdClass ranksAt trioPoint natural trioPointOf pointOf oneParity inBounds rightSum byColumns
 P = (
   refl,
   refl,

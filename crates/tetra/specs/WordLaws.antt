@@ -25,14 +25,15 @@ use Rattle.rows.specs.Middle.{middle-row-in}
 use Rattle.rows.specs.Answers.{class-index-in, class-index-row, mixed-index-in, mixed-index-row, mixed-index-back}
 use Rattle.rows.specs.declared.Seated.the-variants.{At}
 use Rattle.trellis.specs.Code.{wordOf, columns, label}
-use Rattle.trellis.specs.Trellis.{labelOf, s8Of, b1Of, b2Of, b3Of}
+use Rattle.trellis.specs.Trellis.{labelOf}
 use Rattle.trellis.specs.CodeLaws.{label-low}
 use Rattle.trellis.specs.Back.{label-word, label-iff, label-at, label-parts, parts-label}
 use Rattle.tetra.specs.Lattice.{trio, Codeword, section, sectionRanks, inOwnClass, HasWord}
 use Rattle.tetra.specs.Tetra.{codewordAt, thirdClass, ranksAt, trioPoint, trioPointOf, pointOf}
-use Rattle.tetra.specs.Encode.{parityAt, oneParity, labelFor, inCode, inBounds, rightSum, encodable, fieldsFor}
+use Rattle.tetra.specs.Encode.{parityAt, oneParity, labelFor, inCode, inBounds, rightSum, encodable, fieldsBy, fieldsFor}
 use Rattle.tetra.specs.Orders.{trio-length, natural-length, trio-natural, parity-natural, parity-trio, uniform-at, at-uniform, k-order}
-use Rattle.tetra.specs.PointLaws.{ranks-part, below-append, class-three, k-classes, third-lt, point-size, point-parity, bits-are, first-row, third-row, point-codeword, point-sum, first-is, second-is, third-is}
+use Rattle.tetra.specs.PointLaws.{ranks-part, below-append, class-three, k-classes, third-lt, first-row, third-row}
+use Rattle.tetra.specs.PointLaws.{point-size, point-parity, bits-are, point-codeword, point-sum, first-is, second-is, third-is}
 
 -- ---- the sections of a point
 pub section-size : (y : List ℤ) (s : ℕ) → s < 3 → length (section y s) ≡ 8
@@ -146,19 +147,7 @@ module _ (y : List ℤ) (h : HasWord y) where
 
   -- the fields by these rows
   found : Fields
-  found =
-      record {
-        p = parityAt y;
-        r = class (sectionRanks y 0);
-        s8 = s8Of (labelFor y);
-        b1 = b1Of (labelFor y);
-        i1 = row0 .0;
-        b2 = b2Of (labelFor y);
-        i2 = row1 .0;
-        b3 = b3Of (labelFor y);
-        i3 = row2 .0;
-        gain = 0;
-      }
+  found = fieldsBy (parityAt y) (labelFor y) (class (sectionRanks y 0)) (row0 .0) (row1 .0) (row2 .0)
 
   fields-found : fieldsFor y ≡ found
   unfolding fieldsFor found
@@ -236,9 +225,10 @@ module _ (w : ℕ) where
   section2 : sectionRanks (pointOf w) 2 ≡ rowRanks (2048 * thirdClass (fieldsOf w) + fieldsOf w .i3)
   section2 = ap (λ (t : List ℤ). ranksOf (take 8 (drop 16 t))) (trio-of w) ∙ third-is (fieldsOf w) (split-narrow w)
 
-  one-parity-of : (i : ℕ) → i < 24 → parityOf (getD (pointOf w) i (pos 0)) ≡ fieldsOf w .p
+  -- its coordinates have the parity of the field p
+  pub word-parity : (i : ℕ) → i < 24 → parityOf (getD (pointOf w) i (pos 0)) ≡ fieldsOf w .p
   unfolding pointOf trioPointOf
-  one-parity-of =
+  word-parity =
       let f = fieldsOf w in
       let n = split-narrow w in
       parity-natural (f .p) (trioPoint f) (point-size f n) (point-parity f n)
@@ -254,7 +244,7 @@ module _ (w : ℕ) where
             record {
               size = natural-length (trioPoint f);
               p = f .p;
-              one-parity = one-parity-of;
+              one-parity = word-parity;
               codeword = subst (λ (l : List ℤ). Codeword (bitsOf l)) (sym t) (point-codeword f n);
               sum-of-k =
                   sym (k-order (pointOf w) (natural-length (trioPoint f))) ∙ ap (λ (l : List ℤ). modZ (kSum l) 2) t ∙ point-sum f n;
@@ -279,7 +269,7 @@ module _ (w : ℕ) where
       let n = split-narrow w in
       let q = label-parts (f .s8) (f .b1) (f .b2) (f .b3) (n .s8) (n .b1) (n .b2) (n .b3) in
       rw (
-        one-parity-of 0 (omega arith),
+        word-parity 0 (omega arith),
         section0,
         section1,
         section2,

@@ -10,7 +10,7 @@ ghost use Rattle.rank.specs.Coord.{valOf};
 ghost use Rattle.rank.specs.Vector.{ranksBelow};
 ghost use Rattle.rank.specs.Section.{pointAt, uniform, bitsOf};
 ghost use Rattle.rank.specs.Answers.{marksOf};
-ghost use Rattle.rows.specs.Table.{rowRanks, middleClass, middleRow};
+ghost use Rattle.rows.specs.Table.{rowRanks, middleRow};
 ghost use Rattle.tetra.specs.Lattice.{trio};
 ghost use Rattle.tetra.specs.Tetra.{trioPoint, trioPointOf, natural, pointOf, patternsOf};
 ghost use Rattle.tetra.specs.Encode.{refused, fieldsBy, encodeOf};
@@ -23,11 +23,6 @@ pub use trellis::branch;
 pub use trellis::order;
 pub use trellis::prefix;
 pub use trellis::suffix;
-
-// Rows per class, and those of class 0 among the middle section's: those of crate rows, in the types that are wanted here.
-const CLASS_ROWS: usize = 2048;
-
-const N0_MIXED: u16 = 1240;
 
 // The bytes of a codeword: one for each section.
 pub struct Bytes {
@@ -67,11 +62,11 @@ fn section_of(p: u32, c: u32, rho: [u32; 8]) -> [i32; 8]
 }
 
 // The same with the ranks of row `i`.
-fn section_at(p: u32, c: u8, i: usize) -> [i32; 8]
+fn section_at(p: u32, c: u8, i: u32) -> [i32; 8]
     requires { ⌜ (p < 2) × (i < 4096) ⌝ }
     ensures { λ r. ⌜ r ≡ pointAt p c (rowRanks i) ⌝ }
 {
-    section_of(p, c as u32, rank::unpack(rows::row(i)))
+    section_of(p, c as u32, rank::unpack(rows::row(i as usize)))
 }
 
 // Coordinate `j` of three sections in a row.
@@ -101,25 +96,15 @@ fn three(a: [i32; 8], b: [i32; 8], c: [i32; 8]) -> [i32; 24]
     out
 }
 
-// The class of the middle's row `i`.
-fn middle_class(i: u16) -> u32
-    ensures { λ r. ⌜ (r ≡ middleClass i) × (r < 2) ⌝ }
-{
-    if i < N0_MIXED {
-        return 0;
-    }
-    1
-}
-
-// The number of the middle's row `i` in the table.
-fn middle_row(i: u16) -> usize
+// The number in the table of the middle's row `i`: 1,240 rows of class 0, then those of class 1.
+fn middle_row(i: u32) -> u32
     requires { ⌜ i < 2048 ⌝ }
     ensures { λ r. ⌜ (r ≡ middleRow i) × (r < 4096) ⌝ }
 {
-    if i < N0_MIXED {
-        return i as usize;
+    if i < rows::N0_MIXED {
+        return i;
     }
-    CLASS_ROWS + ((i - N0_MIXED) as usize)
+    rows::CLASS_ROWS + (i - rows::N0_MIXED)
 }
 
 // The point of fields that fit their widths, in trio order, by the tables of the trellis.
@@ -129,14 +114,15 @@ fn trio_point(f: word::Fields) -> [i32; 24]
 {
     let p = f.p as u32;
     let r = f.r as u32;
-    let r3 = (p + r + middle_class(f.i2)) % 2;
     let s8 = f.s8 as usize;
+    let m = middle_row(f.i2 as u32);
+    let r3 = (p + r + m / rows::CLASS_ROWS) % 2;
     let e = trellis::branch(s8, f.b2 as usize);
     let c1 = trellis::prefix(s8, f.b1 as usize);
     let c3 = trellis::suffix(e.s16 as usize, f.b3 as usize);
-    let y1 = section_at(p, c1, CLASS_ROWS * (r as usize) + (f.i1 as usize));
-    let y2 = section_at(p, e.byte, middle_row(f.i2));
-    let y3 = section_at(p, c3, CLASS_ROWS * (r3 as usize) + (f.i3 as usize));
+    let y1 = section_at(p, c1, rows::CLASS_ROWS * r + (f.i1 as u32));
+    let y2 = section_at(p, e.byte, m);
+    let y3 = section_at(p, c3, rows::CLASS_ROWS * r3 + (f.i3 as u32));
     three(y1, y2, y3)
 }
 

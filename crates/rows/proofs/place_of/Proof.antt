@@ -1,12 +1,12 @@
 -- `rows::place_of` meets its contract: of the 2 ^ d rows from lo on, one is w if any row is. Assumes nothing.
 use mathlib.Core.Path.{_≡_, sym, ap, subst, _∙_}
-use Prim.Native.Nat.{ℕ, _*_, _-_, _≤_}
+use Prim.Native.Nat.{ℕ, _+_, _*_, _-_, _≤_}
 use native.Mathlib.Nat.{le-of-lt}
 use native.Mathlib.Omega.{arith}
 use borrow.Author.Needs.{needs}
 use Rattle.rank.specs.Vector.{unpack}
 use Rattle.rows.specs.Key.{key}
-use Rattle.rows.proofs.Search.{Around, all-of-class, last, turn-up, turn-down}
+use Rattle.rows.proofs.Search.{read, Around, all-of-class, last, middle-in, turn-up, turn-down}
 use Rattle.rows.proofs.place_of.Statement.{statement}
 use Rattle.rows.proofs.place_of.Tie as tie
 
@@ -14,10 +14,10 @@ down : (d : ℕ) → d ≤ 11 → d - 1 ≤ 11
 down d h = omega arith
 
 abbrev Inv-loop : tie.InvT-loop
-Inv-loop w k lo₀ d₀ lo d = (d ≤ 11) × (lo ≤ 4096) × Around w lo d
+Inv-loop t w k lo₀ d₀ lo d = (d ≤ 11) × (lo ≤ 4096) × Around w lo d
 
 abbrev μ-loop : tie.MeasureT-loop
-μ-loop w k lo₀ d₀ lo d = d
+μ-loop t w k lo₀ d₀ lo d = d
 
 key-of-requires : tie.Need-key-of-requires Inv-loop μ-loop
 key-of-requires c κs = search needs
@@ -48,8 +48,14 @@ bit-requires c κs = omega arith
 add-m : tie.Need-add-m Inv-loop μ-loop
 add-m c = omega (arith, c .bit .ensures .1, c .before .before .loop .inv .1)
 
-row-requires : tie.Need-row-requires Inv-loop μ-loop
-row-requires c κs = search needs
+mul-key-of : tie.Need-mul-key-of Inv-loop μ-loop
+mul-key-of c = search needs
+
+element-copy-out-key-of : tie.Need-element-copy-out-key-of Inv-loop μ-loop
+element-copy-out-key-of c =
+    let l = c .before .before .loop in
+    middle-in (c .before .before .before .before .before .args .w) (l .lo) (l .d) (c .bit .result) (l .inv .2) (c .before .loop-test .taken)
+    (c .bit .ensures .0)
 
 key-of-requires-2 : tie.Need-key-of-requires-2 Inv-loop μ-loop
 key-of-requires-2 c κs = search needs
@@ -64,7 +70,7 @@ loop-again c =
     let s = i .before .before .before in
     let b = c .before .before .before .bit in
     let k = c .before .key-of2 in
-    let r = k .ensures ∙ ap (λ (x : ℕ). key (unpack 8 x)) (c .before .before .row .ensures) in
+    let r = k .ensures ∙ ap (λ (x : ℕ). key (unpack 8 x)) (read (l .lo + b .result) (s .before .pre)) in
     let t = turn-up (s .before .args .w) (l .lo) (l .d) (b .result) (s .key-of .result) (k .result) (l .inv .2) (i .loop-test .taken) in
     let u = t (b .ensures .0) (s .key-of .ensures) r (c .if1 .taken) in
     (down (l .d) (l .inv .0), le-of-lt (u .0), u .1)
@@ -79,7 +85,7 @@ loop-again-2 c =
     let s = i .before .before .before in
     let b = c .before .before .before .bit in
     let k = c .before .key-of2 in
-    let r = k .ensures ∙ ap (λ (x : ℕ). key (unpack 8 x)) (c .before .before .row .ensures) in
+    let r = k .ensures ∙ ap (λ (x : ℕ). key (unpack 8 x)) (read (l .lo + b .result) (s .before .pre)) in
     let t = turn-down (s .before .args .w) (l .lo) (l .d) (b .result) (s .key-of .result) (k .result) (l .inv .2) (i .loop-test .taken) in
     (down (l .d) (l .inv .0), l .inv .1, t (b .ensures .0) (s .key-of .ensures) r (c .if1 .left))
 
@@ -104,7 +110,8 @@ place-of-spec =
     sub-d
     bit-requires
     add-m
-    row-requires
+    mul-key-of
+    element-copy-out-key-of
     key-of-requires-2
     loop-less
     loop-again

@@ -60,7 +60,8 @@ loop-again c =
     let r : l .c ≡ bitsOf (drop (i + 1) t) = l .inv .1 ∙ ap (λ (k : ℕ). bitsOf (drop k t)) (sym m) in (
       omega arith,
       d ∙ sum (l .c) b _ _ r q ∙ sym n,
-      subst (λ (x : ℕ). x < 2 ^ (24 - i)) (sym d) (subst (λ (k : ℕ). l .c * 2 + b < 2 ^ k) s (more (24 - l .j) (l .c) b (l .inv .2) (c .bit .ensures .1))),
+      subst (λ (x : ℕ). x < 2 ^ (24 - i)) (sym d)
+          (subst (λ (k : ℕ). l .c * 2 + b < 2 ^ k) s (more (24 - l .j) (l .c) b (l .inv .2) (c .bit .ensures .1))),
     )
   where
     sum : (c b x y : ℕ) → c ≡ y → b ≡ x → c * 2 + b ≡ x + 2 * y

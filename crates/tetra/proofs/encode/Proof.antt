@@ -13,7 +13,8 @@ use Rattle.rows.specs.declared.Seated.the-variants.{At}
 use Rattle.rows.specs.Table.{classIndexOf, mixedIndexOf}
 use Rattle.tetra.specs.Lattice.{sectionRanks}
 use Rattle.tetra.specs.Encode.{labelFor, parityAt}
-use Rattle.tetra.proofs.Encoding.{label-read, seat-read, middle-read, no-parity, no-code, no-first, no-second, no-third, classes-lt, no-sum, read-narrow, read-word}
+use Rattle.tetra.proofs.Encoding.{label-read, seat-read, middle-read, no-parity, no-code, no-first, no-second, no-third}
+use Rattle.tetra.proofs.Encoding.{classes-lt, no-sum, read-narrow, read-word}
 use Rattle.tetra.proofs.encode.Statement.{statement}
 use Rattle.tetra.proofs.encode.Tie as tie
 
@@ -212,12 +213,16 @@ returns-6 c =
 word-by-requires : tie.Need-word-by-requires
 word-by-requires c κs =
     let k = c .before in
-    read-narrow (point (l k)) (size (start (l k))) (parity-is k) (found0 k) (found1 k) (found2 k) (ordered (l k) .before .before .one-parity .ensures) (ordered (l k) .before .if1 .left) (label-at (l k)) (k1 k .before .before .if2 .left) (omega (arith, c .if3 .left))
+    let o = ordered (l k) .before in
+    read-narrow (point (l k)) (size (start (l k))) (parity-is k) (found0 k) (found1 k) (found2 k) (o .before .one-parity .ensures)
+    (o .if1 .left) (label-at (l k)) (k1 k .before .before .if2 .left) (omega (arith, c .if3 .left))
 
 returns-7 : tie.Need-returns-7
 returns-7 c =
     let k = c .before .before in
-    read-word (point (l k)) (size (start (l k))) (parity-is k) (found0 k) (found1 k) (found2 k) (ordered (l k) .before .before .one-parity .ensures) (ordered (l k) .before .if1 .left) (label-at (l k)) (k1 k .before .before .if2 .left) (omega (arith, c .before .if3 .left)) (c .word-by .ensures)
+    let o = ordered (l k) .before in
+    read-word (point (l k)) (size (start (l k))) (parity-is k) (found0 k) (found1 k) (found2 k) (o .before .one-parity .ensures)
+    (o .if1 .left) (label-at (l k)) (k1 k .before .before .if2 .left) (omega (arith, c .before .if3 .left)) (c .word-by .ensures)
 
 pub encode-spec : {M : Type 1} → statement M
 encode-spec =

@@ -10,9 +10,6 @@ returns : tie.Need-returns
 unfolding middleRow
 returns c = (rw (lt-ltb (c .before .args .i) 1240 (omega arith)), omega arith)
 
-cast-result : tie.Need-cast-result
-cast-result c = search needs
-
 add-result : tie.Need-add-result
 add-result c = search needs
 
@@ -21,4 +18,4 @@ unfolding middleRow
 returns-2 c = (rw (le-ltb (c .before .args .i) 1240 (omega arith)), omega arith)
 
 pub middle-row-spec : {M : Type 1} → statement M
-middle-row-spec = tie.close (tie.spec returns cast-result add-result returns-2)
+middle-row-spec = tie.close (tie.spec returns add-result returns-2)

@@ -55,7 +55,8 @@ returns : tie.Need-returns
 returns c =
     let a = c .before .args in
     ap (λ (r : Joined). r .word)
-    (c .join .ensures ∙ ap joinOf (made (a .p) (a .x) (a .r) (a .i1) (a .i2) (a .i3)) ∙ join-accepts (fieldsBy (a .p) (a .x) (a .r) (a .i1) (a .i2) (a .i3)) (c .before .pre))
+    (c .join .ensures ∙ ap joinOf (made (a .p) (a .x) (a .r) (a .i1) (a .i2) (a .i3))
+    ∙ join-accepts (fieldsBy (a .p) (a .x) (a .r) (a .i1) (a .i2) (a .i3)) (c .before .pre))
 
 pub word-by-spec : {M : Type 1} → statement M
 word-by-spec =

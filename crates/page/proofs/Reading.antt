@@ -1,0 +1,91 @@
+-- What the readers' definitions hand on from one byte of a text to the next. Assumes nothing.
+use mathlib.Core.Path.{_≡_, refl, ap}
+use mathlib.Core.Bool.{true, false, cond, _&&_}
+use mathlib.Core.List.{List, [], _∷_}
+use Prim.Native.Nat.{ℕ, suc, _+_, _*_, _-_, _^_, _<_, _≤_}
+use native.Mathlib.Nat.{pow-le-pow-right, lt-of-lt-of-le}
+use native.Mathlib.Numerals.{add-one}
+use native.Mathlib.Omega.{arith}
+use lib.Dec.{ltb, eqb, lit<}
+use lib.ListN.{length, getD, take, drop, length-append, length-drop, drop-of-length-le}
+use lib.Seq.{take-all}
+use Rattle.laws.specs.Lists.{drop-next}
+use Rattle.page.specs.Text.{decimal}
+use Rattle.page.specs.Reader.{begins, decimalAt, digitAt, hexAt}
+use Rattle.page.specs.ReaderLaws.{LineRule, begins-only, decimal-only, hex-only, hex-other}
+use Rattle.page.specs.declared.line.Digit.the-variants.{Value, Other}
+use Rattle.page.specs.declared.line.Line.{Line}
+use Rattle.page.specs.declared.line.Line.the-variants.{Good, Bad}
+
+pub begins-step : (s key : List ℕ) (j : ℕ) → j < length s → j < length key
+    → begins (drop j s) (drop j key) ≡ (eqb (getD s j 0) (getD key j 0) && begins (drop (j + 1) s) (drop (j + 1) key))
+unfolding begins
+begins-step s key j h k = rw (drop-next ℕ 0 s j h, drop-next ℕ 0 key j k)
+
+pub begins-short : (s key : List ℕ) (j : ℕ) → length s ≤ j → j < length key → begins (drop j s) (drop j key) ≡ false
+unfolding begins
+begins-short s key j h k = rw (drop-of-length-le s h, drop-next ℕ 0 key j k)
+
+pub begins-all : (s key : List ℕ) (j : ℕ) → length key ≤ j → begins s (drop j key) ≡ true
+unfolding begins
+begins-all s key j h = rw (drop-of-length-le key h) (all s)
+  where
+    all : (s : List ℕ) → begins s [] ≡ true
+    all [] = refl
+    all (b ∷ s) = refl
+
+-- a key that is there is no longer than the text
+pub key-fits : (s key : List ℕ) → begins s key ≡ true → length key ≤ length s
+key-fits s key e = omega (arith, ap length (begins-only s key e), length-append key (drop (length key) s))
+
+-- ---- a part of a text from a place on
+pub tail : (s : List ℕ) (at : ℕ) → take (length s - at) (drop at s) ≡ drop at s
+tail s at = take-all (length s - at) (drop at s) (rw length-drop (omega arith))
+
+-- ---- a decimal number
+-- what the next byte b decides, where `rest` is the answer if it is one more digit
+abbrev pub byByte : ℕ → ℕ → ℕ → ℕ → Line → Line
+byByte most v j b rest =
+    cond (eqb b 10) (cond (eqb j 0) Bad (Good v (j + 1)))
+    (cond (ltb b 48) Bad
+    (cond (ltb 57 b) Bad (cond (ltb most (v * 10 + (b - 48))) Bad (cond (ltb 0 j && eqb v 0) Bad rest))))
+
+pub decimal-step : (most v j : ℕ) (s : List ℕ) → j < length s
+    → decimalAt most v j (drop j s)
+    ≡ byByte most v j (getD s j 0) (decimalAt most (v * 10 + (getD s j 0 - 48)) (j + 1) (drop (j + 1) s))
+unfolding decimalAt
+decimal-step most v j s h = rw (drop-next ℕ 0 s j h)
+
+pub decimal-end : (most v j : ℕ) (s : List ℕ) → length s ≤ j → decimalAt most v j (drop j s) ≡ Bad
+unfolding decimalAt
+decimal-end most v j s h = rw (drop-of-length-le s h)
+
+-- a number that is there is no longer than the text
+pub decimal-room : (most : ℕ) (s : List ℕ) (v n : ℕ) → decimalAt most 0 0 s ≡ Good v n → n ≤ length s
+decimal-room most s v n e =
+    let d = decimal-only most s v n e in
+    omega (arith, d .2, ap length (d .1), length-append (decimal v) (10 ∷ d .0))
+
+-- a line that is there is no longer than the text
+pub line-fits : (read : List ℕ → Line) (fine : ℕ → Type 0) (lineOf : ℕ → List ℕ) → LineRule read fine lineOf → (s : List ℕ) (v n : ℕ)
+    → read s ≡ Good v n → n ≤ length s
+line-fits read fine lineOf rule s v n e =
+    let o = rule .only s v n e in
+    omega (arith, o .1, ap length (o .2), length-append (lineOf v) (drop n s))
+
+-- ---- a row of hexadecimal digits
+-- one more digit
+pub hex-step : (j v d : ℕ) (s : List ℕ) → hexAt j s ≡ Value v → digitAt (getD s j 0) ≡ Value d → hexAt (j + 1) s ≡ Value (v * 16 + d)
+unfolding hexAt
+hex-step j v d s e h = rw (add-one, e, h)
+
+-- none: no longer row is one either
+pub hex-stop : (k j v : ℕ) (s : List ℕ) → j < k → hexAt j s ≡ Value v → digitAt (getD s j 0) ≡ Other → hexAt k s ≡ Other
+unfolding hexAt
+hex-stop k j v s l e h =
+    let q : k - suc j + suc j ≡ k = omega arith in
+    rw q at (hex-other (k - suc j) (suc j) s (rw (e, h)))
+
+-- eleven digits and one more fit a word
+pub hex-room : (j v : ℕ) (s : List ℕ) → j < 12 → hexAt j s ≡ Value v → v < 2 ^ 44
+hex-room j v s l e = lt-of-lt-of-le (hex-only j s v e .0) (pow-le-pow-right {n = 16} (lit< tt) {i = j} {j = 11} (omega arith))

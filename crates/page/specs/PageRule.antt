@@ -1,0 +1,219 @@
+-- The page rule: the reader accepts just the texts that Page.antt calls pages, each with its num and its words. Assumes nothing.
+use mathlib.Core.Path.{_≡_, refl, ap, ap₂, sym, _∙_}
+use mathlib.Core.Bool.{Bool, true, false}
+use mathlib.Core.List.{List, [], _∷_, _++_}
+use Prim.Native.Nat.{ℕ, zero, suc, _+_, _*_, _^_, _<_, _≤_, suc-le-suc}
+use native.Mathlib.Omega.{arith}
+use native.Mathlib.Nat.{zero-lt-suc, le-of-suc-le-suc, not-suc-le-zero}
+use borrow.Author.Tests.{lt-ltb, le-ltb, ltb-true, ltb-false}
+use lib.Dec.{ltb}
+use lib.IntN.{ℤ}
+use lib.ListN.{length, getD, take, drop, length-append}
+use lib.Seq.{drop-append-seam, take-all, length-take-le}
+use Rattle.page.specs.declared.line.Line.{Line}
+use Rattle.page.specs.declared.line.Line.the-variants.{Good, Bad}
+use Rattle.page.specs.Text.{bytes, decimal}
+use Rattle.page.specs.TextLaws.{decimal-fits}
+use Rattle.page.specs.Page.{Page, formatLine, numLine, countLine, wordLine, wordLines, pageText}
+use Rattle.page.specs.Counts.{pageCounts}
+use Rattle.page.specs.Answer.{Reading, page, malformed, readOf, cellsOf}
+use Rattle.page.specs.Reader.{onLine, formatAt, wordLineAt, withWord, wordsAt, countAt, numAt, readingOf}
+use Rattle.page.specs.ReaderLaws.{LineRule, format-rule, decimal-rule, word-rule, word-length}
+
+-- each word fits 48 bits
+abbrev pub Fit : List ℕ → Type 0
+Fit words = (k : ℕ) → k < length words → getD words k 0 < 2 ^ 48
+
+fit-cons : (w : ℕ) (ws : List ℕ) → w < 2 ^ 48 → Fit ws → Fit (w ∷ ws)
+fit-cons w ws h f zero l = h
+fit-cons w ws h f (suc k) l = f k (le-of-suc-le-suc l)
+
+-- ---- each num and each list of words within the bounds have a page
+pub page-of : (num : ℕ) (words : List ℕ) → 1 ≤ num → num ≤ 65535 → length words ≤ 64 → Fit words → Page (pageText num words) num words
+page-of num words a b c f = record { num-least = a; num-most = b; count-most = c; words-fit = f; text-is = refl }
+
+-- ---- from a page to its reading
+-- a line that is there is taken off
+step : (read : List ℕ → Line) (fine : ℕ → Type 0) (lineOf : ℕ → List ℕ) → LineRule read fine lineOf → (v : ℕ) → fine v
+    → (rest : List ℕ) (f : ℕ → List ℕ → Reading)
+    → onLine (read (lineOf v ++ rest)) malformed (λ x n. f x (drop n (lineOf v ++ rest))) ≡ f v rest
+step read fine lineOf rule v h rest f = rw (rule .back v h rest, drop-append-seam (lineOf v) rest)
+
+words-back : (num : ℕ) (words : List ℕ) → Fit words → wordsAt num (length words) (wordLines words) ≡ page num words
+unfolding wordsAt wordLines
+words-back num [] f = refl
+words-back num (w ∷ ws) f =
+    step wordLineAt _ wordLine word-rule w (f zero (zero-lt-suc (length ws))) (wordLines ws) (λ x t. withWord x (wordsAt num (length ws) t))
+    ∙ ap (withWord w) (words-back num ws (λ k l. f (suc k) (suc-le-suc l)))
+
+pub accepted : (text : List ℕ) (num : ℕ) (words : List ℕ) → Page text num words → readingOf text ≡ page num words
+unfolding readingOf numAt countAt pageText numLine countLine
+accepted text num words p =
+    ap readingOf (p .text-is)
+    ∙ step formatAt _ _ format-rule 0 refl (numLine num ++ (countLine (length words) ++ wordLines words)) (λ x t. numAt t)
+    ∙ step _ _ _ (decimal-rule (bytes "num=") 1 65535) num (p .num-least, p .num-most) (countLine (length words) ++ wordLines words) countAt
+    ∙ step _ _ _ (decimal-rule (bytes "count=") 0 64) (length words) (omega arith, p .count-most) (wordLines words) (wordsAt num)
+    ∙ words-back num words (p .words-fit)
+
+-- ---- from a reading to its page
+-- a line was there: its value, and what follows it
+taken : (read : List ℕ → Line) (fine : ℕ → Type 0) (lineOf : ℕ → List ℕ) → LineRule read fine lineOf
+    → (s : List ℕ) (f : ℕ → List ℕ → Reading) (num : ℕ) (words : List ℕ) → onLine (read s) malformed (λ x n. f x (drop n s)) ≡ page num words
+    → (v : ℕ) × (rest : List ℕ) × fine v × (s ≡ lineOf v ++ rest) × (f v rest ≡ page num words)
+taken read fine lineOf rule s f num words = go (read s) refl
+  where
+    go : (l : Line) → read s ≡ l → onLine l malformed (λ x n. f x (drop n s)) ≡ page num words
+        → (v : ℕ) × (rest : List ℕ) × fine v × (s ≡ lineOf v ++ rest) × (f v rest ≡ page num words)
+    go (Good v n) h e =
+        let o = rule .only s v n h in
+        (v, drop n s, o .0, o .2, e)
+    go Bad h e = let z : _≡_ {A = ℕ} 0 1 = cc in absurd (omega arith)
+
+words-only : (num count : ℕ) (s : List ℕ) (x : ℕ) (words : List ℕ) → wordsAt num count s ≡ page x words
+    → (num ≡ x) × (count ≡ length words) × Fit words × (s ≡ wordLines words)
+unfolding wordsAt wordLines
+words-only num zero [] x words e =
+    let y : num ≡ x = cc in
+    let z : [] ≡ words = cc in
+    (y, ap length z, rw (← z) (λ k l. absurd (not-suc-le-zero l)), ap wordLines z)
+words-only num zero (b ∷ s) x words e = let z : _≡_ {A = ℕ} 0 1 = cc in absurd (omega arith)
+words-only num (suc count) s x words e =
+    let t = taken wordLineAt _ wordLine word-rule s (λ w r. withWord w (wordsAt num count r)) x words e in
+    go (t .0) (t .1) (t .2) (t .3) (wordsAt num count (t .1)) refl (t .4) (words-only num count (t .1))
+  where
+    go : (w : ℕ) (r : List ℕ) → w < 2 ^ 48 → s ≡ wordLine w ++ r → (R : Reading) → wordsAt num count r ≡ R → withWord w R ≡ page x words
+        → ((y : ℕ) (ws : List ℕ) → wordsAt num count r ≡ page y ws → (num ≡ y) × (count ≡ length ws) × Fit ws × (r ≡ wordLines ws))
+        → (num ≡ x) × (suc count ≡ length words) × Fit words × (s ≡ wordLines words)
+    go w r h q (page y ws) k e ih =
+        let i = ih y ws k in
+        let m : y ≡ x = cc in
+        let n : w ∷ ws ≡ words = cc in
+        (i .0 ∙ m, ap suc (i .1) ∙ ap length n, rw (← n) (fit-cons w ws h (i .2)), q ∙ ap (λ (l : List ℕ). wordLine w ++ l) (i .3) ∙ ap wordLines n)
+    go w r h q malformed k e ih = let z : _≡_ {A = ℕ} 0 1 = cc in absurd (omega arith)
+
+pub only-pages : (text : List ℕ) (num : ℕ) (words : List ℕ) → readingOf text ≡ page num words → Page text num words
+unfolding readingOf numAt countAt pageText numLine countLine
+only-pages text num words e =
+    let a = taken formatAt _ _ format-rule text (λ x t. numAt t) num words e in
+    let b = taken _ _ _ (decimal-rule (bytes "num=") 1 65535) (a .1) countAt num words (a .4) in
+    let c = taken _ _ _ (decimal-rule (bytes "count=") 0 64) (b .1) (wordsAt (b .0)) num words (b .4) in
+    let d = words-only (b .0) (c .0) (c .1) num words (c .4) in
+    record {
+      num-least = omega (arith, b .2 .0, d .0);
+      num-most = omega (arith, b .2 .1, d .0);
+      count-most = omega (arith, c .2 .1, d .1);
+      words-fit = d .2;
+      text-is =
+          a .3
+          ∙ ap (λ (l : List ℕ). formatLine ++ l)
+          (b .3 ∙ ap₂ (λ (x : ℕ) (l : List ℕ). numLine x ++ l) (d .0)
+          (c .3 ∙ ap₂ (λ (n : ℕ) (l : List ℕ). countLine n ++ l) (d .1) (d .3)));
+    }
+
+-- ---- what a text is
+-- the text is the page of num and the words; or it is none, for any num and words
+abbrev pub Reads : List ℕ → Reading → Type 0
+Reads text (page num words) = Page text num words
+Reads text malformed = (num : ℕ) (words : List ℕ) → Page text num words → ⊥
+
+differ : {num : ℕ} {words : List ℕ} → malformed ≡ page num words → ⊥
+differ e = let z : _≡_ {A = ℕ} 0 1 = cc in omega arith
+
+-- the reader is right about every text
+pub reads : (text : List ℕ) → Reads text (readingOf text)
+reads text = go (readingOf text) refl
+  where
+    go : (R : Reading) → readingOf text ≡ R → Reads text R
+    go (page num words) e = only-pages text num words e
+    go malformed e = λ num words p. differ (sym e ∙ accepted text num words p)
+
+-- and no text is two things: it fixes its num and its words, or that it has none
+pub one-reading : (text : List ℕ) (R S : Reading) → Reads text R → Reads text S → R ≡ S
+one-reading text R S r s = sym (same R r) ∙ same S s
+  where
+    same : (R : Reading) → Reads text R → readingOf text ≡ R
+    same (page num words) r = accepted text num words r
+    same malformed r = go (readingOf text) refl
+      where
+        go : (R : Reading) → readingOf text ≡ R → R ≡ malformed
+        go (page num words) e = absurd (r num words (only-pages text num words e))
+        go malformed e = refl
+
+-- one text has at most one num and one list of words. (One num with one list of words has one text, `pageText`, by definition)
+pub one-page : (text : List ℕ) (num x : ℕ) (words ws : List ℕ) → Page text num words → Page text x ws → (num ≡ x) × (words ≡ ws)
+one-page text num x words ws p q =
+    let e = one-reading text (page num words) (page x ws) p q in
+    (cc, cc)
+
+-- ---- the longest page has 1,189 bytes
+lines-length : (words : List ℕ) → length (wordLines words) ≡ 18 * length words
+unfolding wordLines
+lines-length [] = refl
+lines-length (w ∷ ws) = length-append (wordLine w) (wordLines ws) ∙ omega (arith, word-length w, lines-length ws)
+
+pub longest : (text : List ℕ) (num : ℕ) (words : List ℕ) → Page text num words → length text ≤ 1189
+unfolding pageText formatLine numLine countLine
+longest text num words p =
+    let e : length (pageText num words) ≡ 18 + (5 + length (decimal num) + (7 + length (decimal (length words)) + length (wordLines words))) =
+    simp length-append (omega arith) in
+    omega (
+      arith,
+      p .num-most,
+      p .count-most,
+      ap length (p .text-is),
+      e,
+      lines-length words,
+      decimal-fits 4 num (omega (arith, p .num-most)),
+      decimal-fits 1 (length words) (omega (arith, p .count-most)),
+    )
+
+-- so a text of 1,190 bytes or more is no page, and its first 1,190 bytes tell as much
+too-long : (text : List ℕ) → 1190 ≤ length text → readingOf text ≡ malformed
+too-long text h = go (readingOf text) refl
+  where
+    go : (R : Reading) → readingOf text ≡ R → R ≡ malformed
+    go (page num words) e = absurd (omega (arith, longest text num words (only-pages text num words e)))
+    go malformed e = refl
+
+pub start-tells : (text : List ℕ) → readingOf (take 1190 text) ≡ readingOf text
+start-tells text = go (ltb (length text) 1190) refl
+  where
+    go : (b : Bool) → ltb (length text) 1190 ≡ b → readingOf (take 1190 text) ≡ readingOf text
+    go true e = ap readingOf (take-all 1190 text (omega (arith, ltb-true (length text) 1190 e)))
+    go false e =
+        let h = ltb-false (length text) 1190 e in
+        too-long (take 1190 text) (omega (arith, length-take-le 1190 text h)) ∙ sym (too-long text h)
+
+-- ---- what `read` answers and leaves in a buffer that held `old`
+module _ (text : List ℕ) (old : List ℤ) where
+  -- 9 for a text that is no page
+  pub on-no-page : ((num : ℕ) (words : List ℕ) → Page text num words → ⊥)
+      → (readOf (readingOf text) (length old) ≡ record { number = 9; count = 0 }) × (cellsOf (readingOf text) old ≡ old)
+  unfolding readOf cellsOf
+  on-no-page h = rw (one-reading text (readingOf text) malformed (reads text) h) (refl, refl)
+
+  module _ (num : ℕ) (words : List ℕ) (p : Page text num words) where
+    -- then 8 for a buffer that is too short
+    pub on-short-buffer : length old < 24 * length words
+        → (readOf (readingOf text) (length old) ≡ record { number = 8; count = 0 }) × (cellsOf (readingOf text) old ≡ old)
+    unfolding readOf cellsOf
+    on-short-buffer h = rw (accepted text num words p, lt-ltb (length old) (24 * length words) h) (refl, refl)
+
+    -- any other page gives its count of blocks and its counts, and the cells behind them stay
+    pub on-page : 24 * length words ≤ length old
+        → (readOf (readingOf text) (length old) ≡ record { number = 0; count = length words })
+        × (cellsOf (readingOf text) old ≡ pageCounts num words ++ drop (24 * length words) old)
+    unfolding readOf cellsOf
+    on-page h = rw (accepted text num words p, le-ltb (length old) (24 * length words) h) (refl, refl)
+
+-- 1,536 cells are room for every page
+pub always-room : (text : List ℕ) (cells : ℕ) → 1536 ≤ cells → (readOf (readingOf text) cells .number ≡ 0 → ⊥)
+    → (readingOf text ≡ malformed) × (readOf (readingOf text) cells .number ≡ 9)
+unfolding readOf
+always-room text cells h = go (readingOf text) refl
+  where
+    go : (R : Reading) → readingOf text ≡ R → (readOf R cells .number ≡ 0 → ⊥) → (R ≡ malformed) × (readOf R cells .number ≡ 9)
+    go (page num words) e q =
+        let p = only-pages text num words e in
+        absurd (q (rw (le-ltb cells (24 * length words) (omega (arith, p .count-most)))))
+    go malformed e q = (refl, refl)

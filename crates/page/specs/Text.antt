@@ -1,0 +1,30 @@
+-- Texts as lists of bytes: a quoted text, a number in decimal, a number in hexadecimal. Assumes nothing.
+use mathlib.Core.Bool.{cond}
+use mathlib.Core.List.{List, [], _∷_, _++_}
+use Prim.Native.Nat.{ℕ, zero, suc, _+_, _/_, _%_}
+use Prim.Native.Char.{code}
+use Prim.Native.String.{String}
+use Prim.Native.String as quoted
+use lib.Dec.{ltb}
+
+-- the bytes of a quoted text, all of whose characters are ASCII
+abbrev pub bytes : String → List ℕ
+bytes quoted.[] = []
+bytes (quoted._∷_ c s) = code c ∷ bytes s
+
+-- ---- decimal: no sign, no leading zero except 0 itself
+-- 48 is the byte of the digit 0. n < 10 is one digit; any other n is n / 10 with the digit n % 10 behind it. f is at least the number of digits
+abbrev pub decimalBy : ℕ → ℕ → List ℕ
+decimalBy zero n = []
+decimalBy (suc f) n = cond (ltb n 10) ((48 + n) ∷ []) (decimalBy f (n / 10) ++ ((48 + n % 10) ∷ []))
+
+unfoldable pub decimal : ℕ → List ℕ
+decimal n = decimalBy (suc n) n
+
+-- ---- hexadecimal, lower case: the last k digits of n, the most significant first. The letter a, the byte 97, is the digit ten
+abbrev pub hexDigit : ℕ → ℕ
+hexDigit d = cond (ltb d 10) (48 + d) (87 + d)
+
+unfoldable pub hex : ℕ → ℕ → List ℕ
+hex zero n = []
+hex (suc k) n = hex k (n / 16) ++ (hexDigit (n % 16) ∷ [])
