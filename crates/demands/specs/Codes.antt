@@ -25,12 +25,13 @@ use Rattle.score.specs.QuotientLaws.{Keeps, KeepsBoth, choice-keeps}
 use Rattle.search.specs.declared.Winner.{Winner}
 use Rattle.search.specs.Parity.{bothParities}
 use Rattle.search.specs.Block.{winnerFor, pointFrom}
-use Rattle.members.specs.Members as members
+use Rattle.members.specs.Accepted.{Accepted, call-accepted}
+use Rattle.members.specs.Members.{has-word}
 use Rattle.encoder.specs.declared.Code.{Code}
 use Rattle.encoder.specs.Encode.{zeroCode, codeOf, codeFor, numberAt, encodeAtOver, encodeAtScale}
 use Rattle.encoder.specs.Encode.{higher, twoScales, scaledBack, codeAt, numberOf, encodeOver, encodeWith}
 use Rattle.encoder.specs.Numbers.{zero-says, at-accepted, is-accepted}
-use Rattle.demands.specs.Targets.{accepted-at, target-at, first-fits, second-fits, quotients-fit}
+use Rattle.demands.specs.Targets.{accepted-at, first-fits, second-fits, quotients-fit}
 
 -- ---- what is promised of a code
 pub record Coded (c : Code) : Type 0 where
@@ -77,10 +78,10 @@ either a b i j = go (lt (a .score) (b .score))
     go false = i
 
 -- ---- over the parities ps, for which the point of every accepted target has a word
-module _ (ps : List ℕ) (W : (t : List Float) → members.Accepted t → (n : ℕ) → HasWord (pointFrom (winnerFor ps n t))) where
+module _ (ps : List ℕ) (W : (t : List Float) → Accepted t → (n : ℕ) → HasWord (pointFrom (winnerFor ps n t))) where
   for : (x : List Float) (s : Float) (n : ℕ) → length x ≡ 24 → AllFit x → T (fits binary64 s) → scaleNumber x s ≡ 0 → Coded (codeFor ps x s n)
   unfolding codeFor
-  for x s n l f d e = code-of x (winnerFor ps n (quotientsOf x s)) (W (quotientsOf x s) (target-at x s (accepted-at x s l f d e)) n)
+  for x s n l f d e = code-of x (winnerFor ps n (quotientsOf x s)) (W (quotientsOf x s) (call-accepted x s (accepted-at x s l f d e)) n)
 
   pub at-scale-over : (x : List Float) (s : Float) (n : ℕ) → length x ≡ 24 → AllFit x → T (fits binary64 s) → numberAt x s n ≡ 0
       → Coded (encodeAtOver ps x s n)
@@ -115,7 +116,7 @@ module _ (ps : List ℕ) (W : (t : List Float) → members.Accepted t → (n : �
 -- ---- the full coder
 pub at-scale : (x : List Float) (s : Float) (n : ℕ) → length x ≡ 24 → AllFit x → T (fits binary64 s) → numberAt x s n ≡ 0
     → Coded (encodeAtScale x s n)
-at-scale = at-scale-over bothParities members.has-word
+at-scale = at-scale-over bothParities has-word
 
 pub samples : (x : List Float) (n : ℕ) → length x ≡ 24 → AllFit x → numberOf x n ≡ 0 → Coded (encodeWith x n)
-samples = samples-over bothParities members.has-word
+samples = samples-over bothParities has-word

@@ -1,10 +1,10 @@
--- The quotients of an accepted call: 24 finite doubles of at most a million, at a scale of the caller's and at both scales that `encode` derives.
--- An array of samples holds 24 doubles, which is what `length` and `AllFit` say here. Assumes nothing.
+-- What the number 0 says of a call at a scale: the conditions under which the theorems on targets hold; and that the scales which `encode`
+-- derives are doubles. An array of samples holds 24 doubles, which is what `length` and `AllFit` say here. Assumes nothing.
 use mathlib.Core.Path.{_≡_, refl, sym, subst}
 use mathlib.Core.Bool.{Bool, true, false, cond}
 use mathlib.Core.List.{List, [], _∷_}
-use Prim.Native.Nat.{ℕ, zero, suc, _*_, _<_}
-use native.Mathlib.Nat.{le-of-eq, le-trans, le-of-suc-le-suc, not-suc-le-zero}
+use Prim.Native.Nat.{ℕ, zero, suc, _<_}
+use native.Mathlib.Nat.{le-of-suc-le-suc, not-suc-le-zero}
 use native.Mathlib.Omega.{arith}
 use borrow.Author.Tests.{eqb-true, eqb-false}
 use lib.Dec.{T, eqb}
@@ -13,7 +13,7 @@ use lib.Ieee.{Float, nan, binary64, fits, lt, eq}
 use lib.Ieee.Fits.{mul-fits, div-fits}
 use lib.Ieee.Scale.{finite}
 use Rattle.laws.specs.Tests.{and-left, and-right}
-use Rattle.float.specs.Value.{U, magUnits, zero64}
+use Rattle.float.specs.Value.{zero64}
 use Rattle.float.specs.Calls.{absOf, million64, quotientsOf}
 use Rattle.float.specs.Exact.{zero-fits}
 use Rattle.float.specs.Arrays.{quotients-length, quotients-at}
@@ -21,8 +21,7 @@ use Rattle.score.specs.Samples.{exceeds, some, sampleNumber, isScale, orElse, s
 use Rattle.score.specs.Scale.{root24, largestOf, unitNorm, scaleWith, isNormal, lowerScale, choiceOf, firstScale, secondScale}
 use Rattle.score.specs.declared.Scales.{Scales}
 use Rattle.score.specs.declared.Choice.the-variants.{Zero, Scale, Divide}
-use Rattle.score.specs.SampleLaws.{AllFit, Sample, each-at, exceeds-not, some-cons, samples-are}
-use Rattle.members.specs.Members as members
+use Rattle.score.specs.SampleLaws.{AllFit, Sample, each-at, some-cons, samples-are}
 use Rattle.nearest.specs.Accepted as nearest
 
 -- ---- what the number 0 says at a scale
@@ -59,28 +58,6 @@ accepted-at x s l f fs e =
       above-zero = and-right (finite s) (lt zero64 s) (r .0);
       quotients = λ j h. subst (λ (q : Float). lt million64 (absOf q) ≡ false) (quotients-at x s j (up j h))
           (some-at (exceeds million64) (quotientsOf x s) (r .2) j (subst (λ (n : ℕ). j < n) (sym (quotients-length x s)) (up j h)));
-    }
-
-million-fits : T (fits binary64 million64)
-unfolding fits
-million-fits = tt
-
-million-units : magUnits million64 ≡ 1000000 * U
-unfolding magUnits
-million-units = refl
-
-pub target-at : (x : List Float) (s : Float) → nearest.Accepted x s → members.Accepted (quotientsOf x s)
-target-at x s A =
-    let t = nearest.accepted-target x s A in
-    record {
-      len = t .size;
-      fit = t .double;
-      fin = t .bounded;
-      low = λ j h. le-trans
-          (exceeds-not million64 (getD (quotientsOf x s) j nan) million-fits tt refl (t .double j h) (t .bounded j h)
-          (subst (λ (q : Float). lt million64 (absOf q) ≡ false) (sym (quotients-at x s j (subst (λ (n : ℕ). j < n) (sym (A .size)) h)))
-          (A .quotients j h)))
-          (le-of-eq million-units);
     }
 
 -- ---- the scales that `encode` derives are doubles, and so are samples that were divided
