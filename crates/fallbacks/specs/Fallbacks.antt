@@ -240,3 +240,8 @@ pub fallback-only : (kind p r st c key : ℕ) → kind < 2 → p < 2 → r < 2 �
     → (c ≡ getD (tables .fbByte) (fallbackAt kind p r st) 0) × (key ≡ getD (tables .fbKey) (fallbackAt kind p r st) 0)
 fallback-only kind p r st c key hk hp hr hs l =
     least-one kind p r st c key (byteOf kind p r st) (keyOf kind p r st) hp hr l (fallback-least kind p r st hk hp hr hs)
+
+-- and it has no more entries than there are regions
+pub fallback-count : (length (tables .fbByte) ≡ 512) × (length (tables .fbKey) ≡ 512)
+unfolding fallbackBytes fallbackKeys
+fallback-count = (refl, refl)
