@@ -1,11 +1,12 @@
 #!/usr/bin/env python3
 """Writes what the program ask is run on: crates/ask/stdin, and what it must answer: crates/ask/stdout.
 
-    ask_vectors.py VECTORS [ORACLE]
+    ask_vectors.py VECTORS ORACLE
 
-VECTORS is the folder of decode.txt and point.txt, answers of the Rust: a word and its point, or a point and its word or
-none, a line. With ORACLE, a program that answers request lines by the Rust, each line that is a request is put to it
-too and has to be answered as here.
+VECTORS is the folder of answers of the Rust, a case a line: decode.txt and point.txt, a word and its point, or a point and its word or none;
+scale.txt and kill.txt, samples at a scale and their code; encode.txt, samples, their code and their lower scale; score.txt, samples, a point
+and its score. ORACLE is a program that answers request lines by the Rust: each line here that is a request is put to it too and has to be
+answered as here. It also says the points of the codes of encode.txt, which has their words alone.
 """
 import os
 import subprocess
@@ -33,6 +34,33 @@ def points(folder):
             for row in rows(folder, "point.txt")]
 
 
+def coded(number, word, score, at):
+    return f"refused={number}" if number != "0" else f"word={word} score={score} point={at}"
+
+
+def scales(folder):
+    """scale.txt and kill.txt: setting, scale, samples, number, word, score, cost, point, .."""
+    return [(f"scale {r[0]} {r[1]} " + r[2].replace(",", " "), coded(r[3], r[4], r[5], r[7]))
+            for name in ["scale.txt", "kill.txt"] for r in rows(folder, name)]
+
+
+def lowers(folder):
+    """encode.txt: samples, number, word, score, largest magnitude, lower scale, .."""
+    return [("lower " + r[0].replace(",", " "), f"refused={r[1]}" if r[1] != "0" else f"max={r[4]} scale={r[5]}")
+            for r in rows(folder, "encode.txt")]
+
+
+def autos(folder, oracle):
+    """The point of a code is that of its word: encode.txt leaves it out."""
+    cases = rows(folder, "encode.txt")
+    points = ask(oracle, [f"decode {r[2]}" for r in cases])
+    return [("auto 8 " + r[0].replace(",", " "), coded(r[1], r[2], r[3], p.removeprefix("point="))) for r, p in zip(cases, points, strict=True)]
+
+
+def scores(folder):
+    return [("score " + r[0].replace(",", " ") + " " + r[1].replace(",", " "), f"score={r[2]}") for r in rows(folder, "score.txt")]
+
+
 def point(coordinates):
     return " ".join(["point"] + coordinates)
 
@@ -44,9 +72,14 @@ def long(size):
 
 
 def odd():
-    """Requests that are spelled in an odd way: zeros in front, a minus before 0, the longest line, the ends of i32."""
+    """Requests that are spelled in an odd way: zeros in front, a minus before 0, the longest line, the ends of i32; a double with no zeros in
+    front, the largest settings."""
     ends = ["2147483647", "-2147483648"] + ZEROS[2:]
-    return [(point(["-0", "00"] + ZEROS[2:]), "word=000000000000"), (long(1023), "word=000000000000"), (point(ends), "refused=5")]
+    two = " ".join(["4010666666666666", "400f333333333333"] + ZEROS[2:])
+    code = "word=000000003800 score=4016a09e667f3bcc point=4,4" + ",0" * 22
+    return [(point(["-0", "00"] + ZEROS[2:]), "word=000000000000"), (long(1023), "word=000000000000"), (point(ends), "refused=5"),
+            (f"scale 4294967295 3FF0000000000000 {two}", code), (f"scale 18446744073709551615 3ff0000000000000 {two}", code),
+            (f"scale 08 3ff0000000000000 {two}", code)]
 
 
 def bad():
@@ -54,25 +87,33 @@ def bad():
              "decode 0 0", "decode\t0", "decode 0\r", "decode g", "decode 0x1", "decode -1", "decode +1", "decode 00000000000000001"]
     lines += ["point", "point ", point(ZEROS[1:]), point(ZEROS + ["0"]), point(ZEROS) + " ", point(ZEROS).replace(" ", "  ", 1)]
     lines += [point([c] + ZEROS[1:]) for c in ["2147483648", "-2147483649", "18446744073709551616", "-", "--1", "+1", "1-", "a", "1.0", ""]]
+    zeros = " ".join(ZEROS)
+    lines += ["scale", "scale 8", f"scale 8 {zeros}", f"scale 8 1 {zeros} 0", f"scale -1 1 {zeros}", f"scale 18446744073709551616 1 {zeros}"]
+    lines += ["auto", f"auto {zeros}", f"auto 8 {zeros} 0", f"auto x {zeros}", f"lower 0 {zeros}", f"lower {zeros[2:]}", f"lower {zeros} "]
+    lines += [f"score {zeros}", f"score {zeros} {zeros[2:]}", f"score {zeros} {zeros} 0", f"score {zeros} {zeros[2:]} g", f"lower {zeros[2:]} g"]
     lines += [long(1024), long(2000), "a" * 2000, "decode " + "0" * 2000]
     return [(line, "refused=9") for line in lines]
 
 
+def ask(oracle, lines):
+    run = subprocess.run([oracle], input="".join(line + "\n" for line in lines), stdout=subprocess.PIPE, text=True, check=True)
+    return run.stdout.splitlines()
+
+
 def answered(oracle, cases):
-    run = subprocess.run([oracle], input="".join(line + "\n" for line, _ in cases), stdout=subprocess.PIPE, text=True, check=True)
-    for (line, wanted), got in zip(cases, run.stdout.splitlines(), strict=True):
+    for (line, wanted), got in zip(cases, ask(oracle, [line for line, _ in cases]), strict=True):
         if got != wanted:
             sys.exit(f"ask_vectors: {line}\n  here   {wanted}\n  oracle {got}")
     print(f"{len(cases)} requests are answered alike by the oracle")
 
 
 def main():
-    if len(sys.argv) not in (2, 3):
+    if len(sys.argv) != 3:
         sys.exit(__doc__)
-    good = decodes(sys.argv[1]) + points(sys.argv[1]) + odd()
+    folder, oracle = sys.argv[1:]
+    good = decodes(folder) + points(folder) + scales(folder) + autos(folder, oracle) + lowers(folder) + scores(folder) + odd()
     last = ("decode 1", next(answer for line, answer in good if line == "decode 0000000000000001" or line == "decode 1"))
-    if len(sys.argv) == 3:
-        answered(sys.argv[2], good + [last])
+    answered(oracle, good + [last])
     cases = good + bad() + [last]
     crate = os.path.join(os.path.dirname(os.path.abspath(__file__)), "..", "crates", "ask")
     with open(os.path.join(crate, "stdin"), "w", encoding="ascii", newline="\n") as f:

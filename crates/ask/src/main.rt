@@ -2,17 +2,25 @@
 //
 //   decode W          W: 1 to 16 hex digits, either case                 -> point=c0,..,c23
 //   point C0 .. C23   C: an i32, decimal digits with a - or no sign      -> word=W12, or refused=5
+//   scale N S X0 .. X23         N: a setting, decimal digits; S, X: 1 to 16 hex digits, the bits of a double
+//                                                              -> word=W12 score=B16 point=c0,..,c23, or refused=K
+//   auto N X0 .. X23            the same at the scale that the samples give
+//   lower X0 .. X23                                            -> max=B16 scale=B16, or refused=K
+//   score X0 .. X23 C0 .. C23                                  -> score=B16, or refused=K
 //
-// The words of a line stand one space apart, and its end is an LF, which the last line may lack. A line that is no
+// A double is answered by the 16 hex digits of its bits, a zero with its sign cleared. The words of a line stand one space apart, and its end is an LF, which the last line may lack. A line that is no
 // request, and one of 1,024 bytes or more, is answered by refused=9.
 mod parse;
 mod text;
 
+use encoder::Code;
 use libc::STDIN_FILENO;
 use libc::STDOUT_FILENO;
+use parse::Double;
 use parse::Number;
 use text::put;
 use text::put_decimal;
+use text::put_double;
 use text::put_hex;
 use text::put_point;
 use text::put_text;
@@ -61,6 +69,96 @@ fn point(s: &[u8], at: usize, out: &mut [u8], to: usize) -> usize {
     encode(y, out, to)
 }
 
+fn code(c: Code, out: &mut [u8], to: usize) -> usize {
+    if c.number != 0 {
+        return refused(out, to, c.number);
+    }
+    let y = c.point;
+    let word = put_text(out, to, b"word=");
+    let first = put_hex(out, word, c.word, 12);
+    let score = put_text(out, first, b" score=");
+    let second = put_double(out, score, c.score);
+    let value = put_text(out, second, b" point=");
+    let end = put_point(out, value, y);
+    put(out, end, b'\n')
+}
+
+// A setting of the shrinks: from 8 on all are the same.
+fn setting(n: u64) -> u32 {
+    if n < 8 { n as u32 } else { 8 }
+}
+
+// The code at a scale: setting, scale and samples stand at `at`.
+fn scale(s: &[u8], at: usize, out: &mut [u8], to: usize) -> usize {
+    let Number::Read(n, after) = parse::read_decimal(s, at) else {
+        return refused(out, to, 9);
+    };
+    let Double::Read(by, next) = parse::read_double(s, after) else {
+        return refused(out, to, 9);
+    };
+    let p = parse::read_samples(s, next);
+    if !p.good | (p.next != s.len()) {
+        return refused(out, to, 9);
+    }
+    let x = p.x;
+    code(encoder::encode_at_scale(x, by, setting(n)), out, to)
+}
+
+// The code at the scale that the samples give.
+fn auto(s: &[u8], at: usize, out: &mut [u8], to: usize) -> usize {
+    let Number::Read(n, next) = parse::read_decimal(s, at) else {
+        return refused(out, to, 9);
+    };
+    let p = parse::read_samples(s, next);
+    if !p.good | (p.next != s.len()) {
+        return refused(out, to, 9);
+    }
+    let x = p.x;
+    code(encoder::encode_with(x, setting(n)), out, to)
+}
+
+fn lower(s: &[u8], at: usize, out: &mut [u8], to: usize) -> usize {
+    let p = parse::read_samples(s, at);
+    if !p.good | (p.next != s.len()) {
+        return refused(out, to, 9);
+    }
+    let x = p.x;
+    let l = score::lower_scale(x);
+    if l.number != 0 {
+        return refused(out, to, l.number);
+    }
+    let max = put_text(out, to, b"max=");
+    let first = put_double(out, max, l.largest);
+    let value = put_text(out, first, b" scale=");
+    let end = put_double(out, value, l.scale);
+    put(out, end, b'\n')
+}
+
+fn scored(x: [f64; 24], y: [i32; 24], out: &mut [u8], to: usize) -> usize {
+    let t = score::t_of(x, y);
+    if t.number != 0 {
+        return refused(out, to, t.number);
+    }
+    let value = put_text(out, to, b"score=");
+    let end = put_double(out, value, t.score);
+    put(out, end, b'\n')
+}
+
+// The score of samples and a point, which stand at `at`.
+fn score(s: &[u8], at: usize, out: &mut [u8], to: usize) -> usize {
+    let p = parse::read_samples(s, at);
+    if !p.good {
+        return refused(out, to, 9);
+    }
+    let q = parse::read_point(s, p.next);
+    if !q.good | (q.next != s.len()) {
+        return refused(out, to, 9);
+    }
+    let x = p.x;
+    let y = q.y;
+    scored(x, y, out, to)
+}
+
 fn answer(s: &[u8], out: &mut [u8], to: usize) -> usize {
     let at = parse::name_end(s);
     if parse::is_name(s, at, b"decode") {
@@ -68,6 +166,18 @@ fn answer(s: &[u8], out: &mut [u8], to: usize) -> usize {
     }
     if parse::is_name(s, at, b"point") {
         return point(s, at, out, to);
+    }
+    if parse::is_name(s, at, b"scale") {
+        return scale(s, at, out, to);
+    }
+    if parse::is_name(s, at, b"auto") {
+        return auto(s, at, out, to);
+    }
+    if parse::is_name(s, at, b"lower") {
+        return lower(s, at, out, to);
+    }
+    if parse::is_name(s, at, b"score") {
+        return score(s, at, out, to);
     }
     refused(out, to, 9)
 }

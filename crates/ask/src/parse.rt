@@ -12,11 +12,23 @@ pub(crate) enum Signed {
     Bad,
 }
 
+pub(crate) enum Double {
+    Read(f64, usize),
+    Bad,
+}
+
 // 24 coordinates and the place after them; good says whether they stand there.
 pub(crate) struct Point {
     pub good: bool,
     pub next: usize,
     pub y: [i32; 24],
+}
+
+// 24 samples, likewise.
+pub(crate) struct Samples {
+    pub good: bool,
+    pub next: usize,
+    pub x: [f64; 24],
 }
 
 // What some digits stand for, or that they stand for nothing.
@@ -125,6 +137,46 @@ pub(crate) fn read_hex(s: &[u8], at: usize) -> Number {
     hex_from(s, first)
 }
 
+// The double of these bits. All NaN's bits give the one NaN.
+fn double_of(b: u64) -> f64 {
+    if 0x7ff0_0000_0000_0000 < b % 0x8000_0000_0000_0000 {
+        0.0 / 0.0
+    } else {
+        f64::from_bits(b)
+    }
+}
+
+// The 1 to 16 hex digits of a double's bits.
+pub(crate) fn read_double(s: &[u8], at: usize) -> Double {
+    let Number::Read(b, next) = read_hex(s, at) else {
+        return Double::Bad;
+    };
+    Double::Read(double_of(b), next)
+}
+
+pub(crate) fn read_samples(s: &[u8], at: usize) -> Samples {
+    let mut x = [0.0f64; 24];
+    let mut next = at;
+    let mut j = 0;
+    while j < 24 {
+        let Double::Read(v, after) = read_double(s, next) else {
+            return Samples {
+                good: false,
+                next,
+                x,
+            };
+        };
+        x[j] = v;
+        next = after;
+        j += 1;
+    }
+    Samples {
+        good: true,
+        next,
+        x,
+    }
+}
+
 // ---- decimal digits
 
 // v with one digit more, where that fits.
@@ -160,6 +212,15 @@ fn decimal_from(s: &[u8], first: usize) -> Number {
         i += 1;
     }
     counted(v, first, i, s.len())
+}
+
+// One or more decimal digits.
+pub(crate) fn read_decimal(s: &[u8], at: usize) -> Number {
+    let first = after(s, at, b' ');
+    if first == at {
+        return Number::Bad;
+    }
+    decimal_from(s, first)
 }
 
 // -n, which is !(n - 1).

@@ -33,6 +33,17 @@ pub(crate) fn put_hex(out: &mut [u8], to: usize, n: u64, width: usize) -> usize 
     put_text(out, to, &digits[..k])
 }
 
+// The 16 hex digits of a double's bits; a zero has its sign cleared, and a NaN, which no answer holds, is written so too.
+pub(crate) fn put_double(out: &mut [u8], to: usize, x: f64) -> usize {
+    if x < 0.0 {
+        return put_hex(out, to, f64::to_bits(x), 16);
+    }
+    if 0.0 < x {
+        return put_hex(out, to, f64::to_bits(x), 16);
+    }
+    put_hex(out, to, 0, 16)
+}
+
 // v, or 0 where v is below 0.
 fn whole(v: i32) -> u32
     ensures { λ r. ⌜ r < 2 ^ 31 ⌝ }

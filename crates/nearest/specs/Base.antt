@@ -57,6 +57,16 @@ repair base own other g0 g1 u4 G w e h a b c =
     let d : u4 * (g0 + (e + e)) ≡ u4 * g0 + (u4 * e + u4 * e) = mul-add u4 g0 (e + e) ∙ ap (λ (z : ℕ). u4 * g0 + z) (mul-add u4 e e) in
     omega arith
 
+-- the coordinate of largest regret is one of those seen
+pub worst-lt : (e : List Coord) (n : ℕ) → n ≤ 8 → worstTo e n < 8
+unfolding worstTo
+worst-lt e zero h = omega arith
+worst-lt e (suc n) h = go (lt (coordAt e (worstTo e n) .regret) (coordAt e n .regret)) (worst-lt e n (omega arith))
+  where
+    go : (b : Bool) → worstTo e n < 8 → cond b n (worstTo e n) < 8
+    go true k = h
+    go false k = k
+
 module _ (ts : List Float) (p c : ℕ) (P0 : p < 2) (T0 : (j : ℕ) → j < 8 → Target (getD ts j nan)) where
   abbrev pub tJ : ℕ → Float
   tJ j = getD ts j nan
@@ -87,15 +97,6 @@ module _ (ts : List Float) (p c : ℕ) (P0 : p < 2) (T0 : (j : ℕ) → j < 8 �
   abbrev reg : ℕ → Float
   reg j = coordAt eR j .regret
 
-  pub worst-lt : (n : ℕ) → n ≤ 8 → worstTo eR n < 8
-  unfolding worstTo
-  worst-lt zero h = omega arith
-  worst-lt (suc n) h = go (lt (reg (worstTo eR n)) (reg n)) (worst-lt n (omega arith))
-    where
-      go : (b : Bool) → worstTo eR n < 8 → cond b n (worstTo eR n) < 8
-      go true k = h
-      go false k = k
-
   -- the largest regret is no smaller than any
   worst-most : (n : ℕ) → n ≤ 8 → (j : ℕ) → j < n → AtMost (reg j) (reg (worstTo eR n))
   unfolding worstTo
@@ -109,7 +110,7 @@ module _ (ts : List Float) (p c : ℕ) (P0 : p < 2) (T0 : (j : ℕ) → j < 8 �
       w = worstTo eR n
 
       w8 : worstTo eR n < 8
-      w8 = worst-lt n (omega arith)
+      w8 = worst-lt eR n (omega arith)
 
       fw : Near 4 (reg (worstTo eR n)) (g0 (worstTo eR n)) 0 E1
       fw = facts (worstTo eR n) w8 .regret
@@ -144,7 +145,7 @@ module _ (ts : List Float) (p c : ℕ) (P0 : p < 2) (T0 : (j : ℕ) → j < 8 �
   worst-gap : (j : ℕ) → j < 8 → g0 j ≤ g0 jW + (E1 + E1)
   worst-gap j h =
       let a = facts j h .regret in
-      let b = facts jW (worst-lt 8 (le-refl 8)) .regret in
+      let b = facts jW (worst-lt eR 8 (le-refl 8)) .regret in
       go (posUnits (reg j)) (negUnits (reg j)) (posUnits (reg jW)) (negUnits (reg jW)) (g0 j) (g0 jW) E1 (a .lo) (b .hi) (worst-most 8 (le-refl 8) j h)
     where
       go : (pj mj pw mw x y e : ℕ) → x + mj * 4 ≤ pj * 4 + 0 + e → pw * 4 + 0 ≤ y + mw * 4 + e → pj + mw ≤ pw + mj → x ≤ y + (e + e)
@@ -225,7 +226,7 @@ module _ (ts : List Float) (p c : ℕ) (P0 : p < 2) (T0 : (j : ℕ) → j < 8 �
   base-stepped : (k : ℕ → ℤ) → parK kJ 8 ≢ parK k 8 → Nearest W3 sK k
   unfolding wK
   base-stepped k d =
-      let w8 = worst-lt 8 (le-refl 8) in
+      let w8 = worst-lt eR 8 (le-refl 8) in
       let R = facts jW w8 in
       let own = terms kJ in
       let oth = terms k in
@@ -267,27 +268,3 @@ module _ (ts : List Float) (p c : ℕ) (P0 : p < 2) (T0 : (j : ℕ) → j < 8 �
         where
           no-eq : (a b : ℕ) → eqb a b ≡ false → a ≢ b
           no-eq a b q e = subst T (sym (subst (λ (z : ℕ). eqb a z ≡ true) e (eqb-yes a)) ∙ q) tt
-
-  -- the base has the class it is for
-  pub base-class : (r : ℕ) → r < 2 → parK (bK r) 8 ≡ r
-  base-class r h = go (eqb (parTo eR 8) r) (eqb→eq (parTo eR 8) r) refl
-    where
-      off : (j : ℕ) → slotK (kJ j) (slotOf jW 2 j) ≡ kJ j
-      off j = at (eqb j jW)
-        where
-          at : (b : Bool) → slotK (kJ j) (cond b 2 2) ≡ kJ j
-          at true = slot2 (kJ j)
-          at false = slot2 (kJ j)
-
-      turns : (b : Bool) → oddK (slotK (kJ jW) (cond b 3 1)) + oddK (kJ jW) ≡ 1
-      turns true = ap (λ (z : ℤ). oddK z + oddK (kJ jW)) (+ℤ-one (kJ jW)) ∙ odd-suc (kJ jW)
-      turns false = ap (λ (z : ℤ). oddK z + oddK (kJ jW)) (-ℤ-one (kJ jW)) ∙ odd-pred (kJ jW)
-
-      other : (f g x y a r : ℕ) → f + y ≡ g + x → x + y ≡ 1 → a ≡ g % 2 → a ≢ r → r < 2 → f % 2 ≡ r
-      other f g x y a r h k l m n = omega arith
-
-      go : (b : Bool) → (T b → parTo eR 8 ≡ r) → eqb (parTo eR 8) r ≡ b → parK (λ j. slotK (kJ j) (slotOf jW (cond b 2 (towardOf (coordAt eR jW .dir))) j)) 8 ≡ r
-      go true e q = ap (λ (z : ℕ). z % 2) (sum-same (λ j. oddK (slotK (kJ j) (slotOf jW 2 j))) (λ j. oddK (kJ j)) 8 (λ j l. ap oddK (off j))) ∙ sym (par-is 8) ∙ e tt
-      go false e q = other (sumTo (λ j. oddK (sK j)) 8) (sumTo (λ j. oddK (kJ j)) 8) (oddK (sK jW)) (oddK (kJ jW)) (parTo eR 8) r
-          (sum-set (λ j. oddK (sK j)) (λ j. oddK (kJ j)) jW 8 (worst-lt 8 (le-refl 8)) (λ j l m. ap oddK (stepped-off j m)))
-          (ap (λ (z : ℤ). oddK z + oddK (kJ jW)) stepped-at ∙ turns (ltZ (pos 0) (coordAt eR jW .dir))) (par-is 8) (λ (x : parTo eR 8 ≡ r). subst T (sym (subst (λ (z : ℕ). eqb (parTo eR 8) z ≡ true) x (eqb-yes (parTo eR 8))) ∙ q) tt) h

@@ -27,13 +27,15 @@ use Rattle.nearest.specs.Statement.{sumTo, RowOf}
 use Rattle.nearest.specs.Sums.{sum-same}
 use Rattle.nearest.specs.Ints.{gap-is, gapK}
 use Rattle.nearest.specs.Coordinate.{Target}
-use Rattle.nearest.specs.Base.{row-at, facts, worst-lt, bK, base-best, base-class, eqb-yes, eqb-no, W3}
+use Rattle.nearest.specs.Base.{row-at, facts, worst-lt, bK, base-best, eqb-yes, eqb-no, W3}
 use Rattle.nearest.specs.Operations.{H}
 use Rattle.nearest.specs.Lattice.{Sec, Same, dist8, M}
 use Rattle.nearest.specs.Under.{Num, Under, near-num, near-under, under-near}
 use Rattle.nearest.specs.Entries.{ES, SoundB}
-use Rattle.nearest.specs.Candidate.{Cand, ET, oAt, tAt, sqV, o-lt, cand-stands, term-le, holds-le, weight-le}
-use Rattle.nearest.specs.Steps.{Row, slot-small, coord-rank, coord-w, coord-d, now-cand, step-cand}
+use Rattle.nearest.specs.Shape.{oAt, o-lt, term-le, holds-le, weight-le, row-slots, row-d}
+use Rattle.nearest.specs.Candidate.{Cand, ET, tAt, sqV, cand-stands}
+use Rattle.nearest.specs.Rule.{slot-class}
+use Rattle.nearest.specs.Steps.{Row, slot-small, now-cand, step-cand}
 
 -- a candidate that is a member section is a member
 pub cand-holds : (ts : List Float) (p c c' : ℕ) → p < 2 → (b : Closed) → b .cost ≤ 96 → (k : ℕ → ℤ) (cost key : ℕ) (dist : Float) (e : ℕ) → Cand ts p c k cost key dist e
@@ -48,10 +50,10 @@ cand-holds ts p c c' P0 b B0 k cost key dist e C y R S =
     rank-same j h = ap markOf (S j h ∙ R .at j h) ∙ rank-forth (oAt p c' j) (rankAt (R .key) j) (o-lt p c' j P0) (rho4 j h)
 
     cost-same : cost ≡ sumTo (λ j. sq (rankAt (R .key) j)) 8
-    cost-same = C .cost-is ∙ sum-same (λ j. sq (markK (oAt p c j) (k j))) (λ j. sq (rankAt (R .key) j)) 8 (λ j h. ap sq (rank-same j h))
+    cost-same = C .shape .cost-is ∙ sum-same (λ j. sq (markK (oAt p c j) (k j))) (λ j. sq (rankAt (R .key) j)) 8 (λ j h. ap sq (rank-same j h))
 
     key-same : key ≡ R .key
-    key-same = nib-ext 8 key (R .key) (C .key-lt) (R .key-lt) (λ j h. C .key-is j h ∙ rank-same j h)
+    key-same = nib-ext 8 key (R .key) (C .shape .key-lt) (R .key-lt) (λ j h. C .shape .key-is j h ∙ rank-same j h)
 
 module _ (ts : List Float) (p c : ℕ) (P0 : p < 2) (T0 : (j : ℕ) → j < 8 → Target (tAt ts j)) where
   abbrev eR : List Coord
@@ -66,9 +68,8 @@ module _ (ts : List Float) (p c : ℕ) (P0 : p < 2) (T0 : (j : ℕ) → j < 8 �
   row0 : Row ts p c eR
   row0 = record {
     small = λ j h. facts ts p c P0 T0 j h .small;
-    rank-is = λ j f h l. subst (λ (x : Coord). getD (x .rank) f 0 ≡ markK (oAt p c j) (slotK (x .k0) f)) (sym (row-at ts p c P0 T0 j h)) (coord-rank (tAt ts j) one64 (oAt p c j) f l);
-    w-is = λ j f h l. subst (λ (x : Coord). getD (x .w) f 0 ≡ sq (markK (oAt p c j) (slotK (x .k0) f))) (sym (row-at ts p c P0 T0 j h)) (coord-w (tAt ts j) one64 (oAt p c j) f l);
-    d-is = λ j f h l. subst (λ (x : Coord). getD (x .d) f nan ≡ sqTo (member (oAt p c j) (slotK (x .k0) f)) (tAt ts j)) (sym (row-at ts p c P0 T0 j h)) (coord-d (tAt ts j) one64 (oAt p c j) f l);
+    slots = row-slots ts p c 0;
+    d-is = row-d ts p c 0;
   }
 
   abbrev CandN : (ℕ → ℤ) → Now → Type 0
@@ -88,7 +89,7 @@ module _ (ts : List Float) (p c : ℕ) (P0 : p < 2) (T0 : (j : ℕ) → j < 8 �
       go j false = refl
 
   more : {k : ℕ → ℤ} {cost key : ℕ} {dist : Float} {e : ℕ} → e ≤ ES → Cand ts p c k cost key dist e → Cand ts p c k cost key dist ES
-  more h C = record { small = C .small; cost-is = C .cost-is; key-lt = C .key-lt; key-is = C .key-is; near = near-more ES (C .near) h }
+  more h C = record { small = C .small; shape = C .shape; near = near-more ES (C .near) h }
 
   cand-eq : {k : ℕ → ℤ} {cost cost' key key' : ℕ} {dist dist' : Float} {e : ℕ} → Cand ts p c k cost key dist e → cost' ≡ cost → key' ≡ key → dist' ≡ dist → Cand ts p c k cost' key' dist' e
   cand-eq {k} {cost} {cost'} {key} {key'} {dist} {dist'} {e} C a b d = subst (λ (z : ℕ). Cand ts p c k z key' dist' e) (sym a) (subst (λ (z : ℕ). Cand ts p c k cost z dist' e) (sym b) (subst (λ (z : Float). Cand ts p c k cost key z e) (sym d) C))
@@ -113,7 +114,7 @@ module _ (ts : List Float) (p c : ℕ) (P0 : p < 2) (T0 : (j : ℕ) → j < 8 �
   at-W = ap (λ (b : Bool). slotK (kR jW) (cond b fW 2)) (eqb-yes jW)
 
   w8 : jW < 8
-  w8 = worst-lt ts p c P0 T0 8 (le-refl 8)
+  w8 = worst-lt eR 8 (le-refl 8)
 
   kT-small : natAbs (kT jW) < 31
   kT-small = subst (λ (z : ℤ). natAbs z < 31) (sym at-W) (slot-small (kR jW) fW (row0 .small jW w8) (to-lt (coordAt eR jW .dir)))
@@ -128,8 +129,8 @@ module _ (ts : List Float) (p c : ℕ) (P0 : p < 2) (T0 : (j : ℕ) → j < 8 �
       let f5 = to-lt (coordAt eR jW .dir) in
       let o = oAt p c jW in
       cand-eq (more (lit≤ tt) (step-cand ts p c P0 T0 k2 kT jW w8 kT-small kT-off (n .cost) (n .key) (n .dist) (8 * (ET + H)) (lit≤ tt) own-cand))
-      (ap₂ (λ (a b : ℕ). n .cost - a + b) (row0 .w-is jW 2 w8 (lit≤ tt)) (row0 .w-is jW fW w8 f5 ∙ ap (λ (z : ℤ). sq (markK o z)) (sym at-W)))
-      (ap (keySet (n .key) jW) (row0 .rank-is jW fW w8 f5 ∙ ap (markK o) (sym at-W)))
+      (ap₂ (λ (a b : ℕ). n .cost - a + b) (row0 .slots .w-is jW 2 w8 (lit≤ tt)) (row0 .slots .w-is jW fW w8 f5 ∙ ap (λ (z : ℤ). sq (markK o z)) (sym at-W)))
+      (ap (keySet (n .key) jW) (row0 .slots .rank-is jW fW w8 f5 ∙ ap (markK o) (sym at-W)))
       (ap₂ (λ (a b : Float). add binary64 (sub binary64 (n .dist) a) b) (row0 .d-is jW 2 w8 (lit≤ tt)) (row0 .d-is jW fW w8 f5 ∙ ap (λ (z : ℤ). sqTo (member o z) (tAt ts jW)) (sym at-W)))
 
   pub base-cand : (r : ℕ) → CandN (bK ts p c P0 T0 r) (baseNow eR r)
@@ -142,14 +143,14 @@ module _ (ts : List Float) (p c : ℕ) (P0 : p < 2) (T0 : (j : ℕ) → j < 8 �
 
   -- a base that is a member stands for its section
   pub base-good : (b : Closed) → b .cost ≤ 96 → (r : ℕ) → r < 2 → SoundB p c r ts (baseBest b (baseNow eR r))
-  base-good b B0 r R0 h = cand-stands ts p c r P0 T0 b B0 (bK ts p c P0 T0 r) (baseNow eR r .cost) (baseNow eR r .key) (baseNow eR r .dist) ES (le-refl ES) (base-cand r) (base-class ts p c P0 T0 r R0) h
+  base-good b B0 r R0 h = cand-stands ts p c r P0 T0 b B0 (bK ts p c P0 T0 r) (baseNow eR r .cost) (baseNow eR r .key) (baseNow eR r .dist) ES (le-refl ES) (base-cand r) (slot-class eR jW r w8 R0) h
 
   -- the section of the base
   abbrev bS : ℕ → ℕ → ℤ
   bS r j = member (oAt p c j) (bK ts p c P0 T0 r j)
 
   pub base-sec : (r : ℕ) → r < 2 → Sec p c r (bS r)
-  base-sec r h = record { k = bK ts p c P0 T0 r; at = λ j l. refl; class = base-class ts p c P0 T0 r h }
+  base-sec r h = record { k = bK ts p c P0 T0 r; at = λ j l. refl; class = slot-class eR jW r w8 h }
 
   pub base-num : (r : ℕ) → Num (baseNow eR r .dist)
   base-num r = near-num (base-cand r .near)

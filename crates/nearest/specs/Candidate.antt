@@ -1,7 +1,6 @@
 -- A candidate is eight whole numbers k; its cost, key and distance say what they are; if a bound holds of it, its value stands for the
 -- section of its key.
 use mathlib.Core.Path.{_≡_, refl, sym, ap, ap₂, _∙_, subst}
-use mathlib.Core.Logic.{_⊎_, inl, inr}
 use mathlib.Core.Bool.{Bool, true, false, not, _&&_, _||_}
 use mathlib.Core.List.{List}
 use Prim.Native.Nat.{ℕ, zero, suc, _+_, _*_, _/_, _^_, _≤_, _<_, zero-le}
@@ -25,10 +24,10 @@ use Rattle.search.specs.Record.{sqTo, member, bitAt}
 use Rattle.search.specs.Entries.{distTo, rankAt, sectionAt}
 use Rattle.search.specs.declared.Closed.{Closed}
 use Rattle.search.specs.Bound.{holds, lexOf}
-use Rattle.nearest.specs.Keys.{markK, rank-back, rank-lt}
+use Rattle.nearest.specs.Keys.{markK}
+use Rattle.nearest.specs.Shape.{Shape, member-abs, oAt, o-lt, shape-at}
 use Rattle.nearest.specs.Statement.{sumTo, parK}
 use Rattle.nearest.specs.Sums.{sum-same}
-use Rattle.nearest.specs.Ints.{member-parts, abs-parts}
 use Rattle.nearest.specs.Coordinate.{Target, int-mg}
 use Rattle.nearest.specs.Operations.{H, near-plus}
 use Rattle.nearest.specs.Lattice.{dist8}
@@ -39,9 +38,6 @@ ET = 2 ^ 2113
 
 abbrev pub TopT : ℕ
 TopT = 2 ^ 2164
-
-abbrev pub oAt : ℕ → ℕ → ℕ → ℕ
-oAt p c j = p + 2 * bitAt c j
 
 abbrev pub tAt : List Float → ℕ → Float
 tAt ts j = getD ts j nan
@@ -115,59 +111,11 @@ module _ (v : ℕ → ℤ) (ts : List Float) (V0 : (j : ℕ) → j < 8 → natAb
 -- ---- candidates
 pub record Cand (ts : List Float) (p c : ℕ) (k : ℕ → ℤ) (cost key : ℕ) (dist : Float) (e : ℕ) : Type 0 where
   pub small : (j : ℕ) → j < 8 → natAbs (k j) < 31
-  pub cost-is : cost ≡ sumTo (λ j. sq (markK (oAt p c j) (k j))) 8
-  pub key-lt : key < 2 ^ 32
-  pub key-is : (j : ℕ) → j < 8 → rankAt key j ≡ markK (oAt p c j) (k j)
+  pub shape : Shape p c k cost key
   pub near : Near U dist (sumTo (λ j. sqV (member (oAt p c j) (k j)) (tAt ts j)) 8) 0 e
 
-pub o-lt : (p c j : ℕ) → p < 2 → oAt p c j < 4
-o-lt p c j h = let a = mod-lt (c / 2 ^ j) (zero-lt-suc 1) in omega arith
-
 pub member-small : (o : ℕ) (k : ℤ) → o < 4 → natAbs k < 31 → natAbs (member o k) < 128
-member-small o k h l = go (posPart (member o k)) (negPart (member o k)) o (posPart k) (negPart k) (natAbs k) (natAbs (member o k)) h l (abs-parts k) (abs-parts (member o k)) (member-parts o k) (one (member o k))
-  where
-    one : (z : ℤ) → (posPart z ≡ 0) ⊎ (negPart z ≡ 0)
-    one (pos n) = inr refl
-    one (negsuc n) = inl refl
-
-    go : (p n o a b m v : ℕ) → o < 4 → m < 31 → m ≡ a + b → v ≡ p + n → p + 4 * b ≡ o + 4 * a + n → (p ≡ 0) ⊎ (n ≡ 0) → v < 128
-    go p n o a b m v h l x y z (inl q) = omega arith
-    go p n o a b m v h l x y z (inr q) = omega arith
-
--- a term is no more than the sum
-pub term-le : (f : ℕ → ℕ) (n j : ℕ) → j < n → f j ≤ sumTo f n
-unfolding sumTo
-term-le f zero j h = absurd (none h)
-  where
-    none : j < 0 → ⊥
-    none h = omega arith
-term-le f (suc n) j h = go (λ l. term-le f n j l) (native.Mathlib.Decide.ℕ-discrete n j)
-  where
-    go : (j < n → f j ≤ sumTo f n) → Dec (n ≡ j) → f j ≤ sumTo f n + f n
-    go r (yes e) = let a : f n ≡ f j = ap f e in omega arith
-    go r (no d) = let l : j < n = omega arith in let a = r l in omega arith
-
-pub holds-le : (b : Closed) (cost key : ℕ) → holds b cost key ≡ true → cost ≤ b .cost
-holds-le b cost key h = go (ltb cost (b .cost)) (eqb cost (b .cost)) (ltb→lt cost (b .cost)) (eqb→eq cost (b .cost)) (subst T (sym h) tt)
-  where
-    go : (x y : Bool) → (T x → cost < b .cost) → (T y → cost ≡ b .cost) → T (x || (y && (leb (lexOf key) (b .cut)))) → cost ≤ b .cost
-    go true y k l t = le-of-lt (k tt)
-    go false true k l t = le-of-eq (l tt)
-    go false false k l t = absurd t
-
--- (2 r + 1) ^ 2 at most 96 leaves r at most 4
-pub weight-le : (r : ℕ) → r < 16 → sq r ≤ 96 → r ≤ 4
-weight-le r h l = go (leb r 4) (leb→le r 4) (nleb→lt r 4)
-  where
-    go : (t : Bool) → (T t → r ≤ 4) → (T (not t) → 4 < r) → r ≤ 4
-    go true a b = a tt
-    go false a b = absurd (no (2 * r + 1) (big (b tt)) l)
-      where
-        big : 4 < r → 11 ≤ 2 * r + 1
-        big m = omega arith
-
-        no : (x : ℕ) → 11 ≤ x → x * x ≤ 96 → ⊥
-        no x m k = let y : 11 * 11 ≤ x * x = mul-le-mul m m in omega arith
+member-small o k h l = let a = member-abs o k in omega arith
 
 module _ (ts : List Float) (p c r : ℕ) (P0 : p < 2) (T0 : (j : ℕ) → j < 8 → Target (tAt ts j)) (b : Closed) (B0 : b .cost ≤ 96) where
   pub cand-stands : (k : ℕ → ℤ) (cost key : ℕ) (dist : Float) (e : ℕ) → e ≤ ES → Cand ts p c k cost key dist e → parK k 8 ≡ r → holds b cost key ≡ true → Stands p c r ts key dist
@@ -178,12 +126,8 @@ module _ (ts : List Float) (p c r : ℕ) (P0 : p < 2) (T0 : (j : ℕ) → j < 8 
         room = le-trans (le-of-eq same) (le-trans (sum-top (λ j. member (oAt p c j) (k j)) ts (λ j l. member-small (oAt p c j) (k j) (o-lt p c j P0) (C .small j l)) T0 8 (le-refl 8)) (lit≤ tt));
       }
     where
-      rank4 : (j : ℕ) → j < 8 → markK (oAt p c j) (k j) ≤ 4
-      rank4 j l = weight-le (markK (oAt p c j) (k j)) (rank-lt (oAt p c j) (k j))
-          (le-trans (term-le (λ j. sq (markK (oAt p c j) (k j))) 8 j l) (le-trans (le-of-eq (sym (C .cost-is))) (le-trans (holds-le b cost key h) B0)))
-
       at : (j : ℕ) → j < 8 → sectionAt p c key j ≡ member (oAt p c j) (k j)
-      at j l = ap (valOf (oAt p c j)) (C .key-is j l) ∙ rank-back (oAt p c j) (k j) (o-lt p c j P0) (rank4 j l)
+      at = shape-at p c P0 b B0 k cost key (C .shape) h
 
       same : dist8 (sectionAt p c key) ts ≡ sumTo (λ j. sqV (member (oAt p c j) (k j)) (tAt ts j)) 8
       same = sum-same (λ j. sqV (sectionAt p c key j) (tAt ts j)) (λ j. sqV (member (oAt p c j) (k j)) (tAt ts j)) 8 (λ j l. ap (λ (z : ℤ). sqV z (tAt ts j)) (at j l))

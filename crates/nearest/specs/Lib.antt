@@ -1,7 +1,10 @@
--- the statement, the theorem, and that its premises can be met
+-- the statement and the theorem; accepted calls; that the premises can be met, and what demand 3 rejects
+pub mod Demand3
+pub mod Accepted
+pub mod OnPoint
+-- the form that the proof works with, and that it is what document 01 has
 pub mod Statement
-pub mod Nearest
-pub mod Origin
+pub mod Link
 -- the proof: sums and signed numbers; one coordinate; the base of a pattern; doubles
 pub mod Sums
 pub mod Ints
@@ -18,6 +21,8 @@ pub mod Winner
 pub mod Parities
 -- packed rows, candidates, the section search
 pub mod Keys
+pub mod Shape
+pub mod Rule
 pub mod Candidate
 pub mod Steps
 pub mod Pairs
@@ -28,3 +33,4 @@ pub mod Reach
 pub mod Premises
 pub mod Sections
 pub mod TableFacts
+pub mod Natural

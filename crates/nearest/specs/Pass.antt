@@ -58,6 +58,24 @@ small i = mod-lt i (zero-lt-suc 63)
 bit : (i : ℕ) → i % 2 < 2
 bit i = mod-lt i (zero-lt-suc 1)
 
+module _ (g : Tables) (u : Rule) (t : Targets) (p : ℕ) where
+  -- any property of the three lists that `seeded` keeps is kept by the seed joins
+  pub seeds-keep : (Q : Sides → Type 0) → ((s : Sides) (w : Way) → Q s → Q (seeded g u t p s w)) → (s : Seed) → Q (s .sides) → (n : ℕ) → Q (seedTo g u t p s n .sides)
+  unfolding seedTo
+  seeds-keep Q k s q zero = q
+  seeds-keep Q k s q (suc n) = go (seedTo g u t p s n .done) (seeds-keep Q k s q n)
+    where
+      by : (s : Seed) (w : Way) → Q (s .sides) → Q (seedBy g u t p s w .sides)
+      by s w q = at (allExact (s .sides) w)
+        where
+          at : (m : Bool) → Q ((cond {A = Seed} m (record { sides = s .sides; u = lower (s .u) (w .cost); done = true }) (record { sides = seeded g u t p (s .sides) w; u = s .u; done = false })) .sides)
+          at true = q
+          at false = k (s .sides) w q
+
+      go : (m : Bool) → Q (seedTo g u t p s n .sides) → Q ((cond m (seedTo g u t p s n) (seedBy g u t p (seedTo g u t p s n) (joinTo g p (seedTo g u t p s n .sides) 128))) .sides)
+      go true q = q
+      go false q = by (seedTo g u t p s n) (joinTo g p (seedTo g u t p s n .sides) 128) q
+
 module _ (g : Tables) (u : Rule) (t : Targets) (p : ℕ) (F : Facts g u t p) where
   starts-sound : AllSound g t p (starts g t p)
   unfolding starts
@@ -84,23 +102,6 @@ module _ (g : Tables) (u : Rule) (t : Targets) (p : ℕ) (F : Facts g u t p) whe
     three = λ j. fixed-keeps (S3 g t p) (s .e3) (w .i3) (solved3 g u (t .t3) p (w .i3)) j (λ e h q. subst (λ (i : ℕ). Final (EndByte g 1 (j % 64)) p (j / 64) (t .t3) (solved3 g u (t .t3) p i)) (sym e) (new3 j h)) (a .three j);
   }
 
-  -- any property of the three lists that `seeded` keeps is kept by the seed joins
-  seeds-keep : (Q : Sides → Type 0) → ((s : Sides) (w : Way) → Q s → Q (seeded g u t p s w)) → (s : Seed) → Q (s .sides) → (n : ℕ) → Q (seedTo g u t p s n .sides)
-  unfolding seedTo
-  seeds-keep Q k s q zero = q
-  seeds-keep Q k s q (suc n) = go (seedTo g u t p s n .done) (seeds-keep Q k s q n)
-    where
-      by : (s : Seed) (w : Way) → Q (s .sides) → Q (seedBy g u t p s w .sides)
-      by s w q = at (allExact (s .sides) w)
-        where
-          at : (m : Bool) → Q ((cond {A = Seed} m (record { sides = s .sides; u = lower (s .u) (w .cost); done = true }) (record { sides = seeded g u t p (s .sides) w; u = s .u; done = false })) .sides)
-          at true = q
-          at false = k (s .sides) w q
-
-      go : (m : Bool) → Q (seedTo g u t p s n .sides) → Q ((cond m (seedTo g u t p s n) (seedBy g u t p (seedTo g u t p s n) (joinTo g p (seedTo g u t p s n .sides) 128))) .sides)
-      go true q = q
-      go false q = by (seedTo g u t p s n) (joinTo g p (seedTo g u t p s n .sides) 128) q
-
   closing-final : (s : Sides) (b : Bounds) → AllSound g t p s → AllFinal g t p (closing g u t p s b)
   unfolding closing
   closing-final s b a = record {
@@ -116,7 +117,7 @@ module _ (g : Tables) (u : Rule) (t : Targets) (p : ℕ) (F : Facts g u t p) whe
   pub last-final : (u0 : Float) → AllFinal g t p (lastSides g u t p (seedOf g u t p u0))
   last-final u0 =
       let s = seedOf g u t p u0 in
-      closing-final (s .sides) (boundsTo g p (s .sides) (s .u) 4096) (seeds-keep (AllSound g t p) seeded-sound (record { sides = starts g t p; u = u0; done = false }) starts-sound 2)
+      closing-final (s .sides) (boundsTo g p (s .sides) (s .u) 4096) (seeds-keep g u t p (AllSound g t p) seeded-sound (record { sides = starts g t p; u = u0; done = false }) starts-sound 2)
 
   -- what y has at the start it has at the last join
   module _ (i1 i2 i3 B1 B2 B3 : ℕ) (h1 : i1 < 128) (h2 : i2 < 256) (h3 : i3 < 128) (m1 : Mine (endStart g (t .t1) 0 p (i1 / 64) (i1 % 64)) B1)
@@ -153,4 +154,4 @@ module _ (g : Tables) (u : Rule) (t : Targets) (p : ℕ) (F : Facts g u t p) whe
     pub last-mine : (u0 : Float) → Q (lastSides g u t p (seedOf g u t p u0))
     last-mine u0 =
         let s = seedOf g u t p u0 in
-        closing-mine (s .sides) (boundsTo g p (s .sides) (s .u) 4096) (seeds-keep Q seeded-mine (record { sides = starts g t p; u = u0; done = false }) starts-mine 2)
+        closing-mine (s .sides) (boundsTo g p (s .sides) (s .u) 4096) (seeds-keep g u t p Q seeded-mine (record { sides = starts g t p; u = u0; done = false }) starts-mine 2)

@@ -35,8 +35,9 @@ use Rattle.nearest.specs.Entries.{ES, Good, EndByte, EndFacts, MidFacts,
 use Rattle.nearest.specs.Pass.{Facts}
 use Rattle.nearest.specs.Winner.{GoodTables}
 use Rattle.nearest.specs.Parities.{IsY, winner-is-y}
-use Rattle.nearest.specs.Candidate.{oAt, tAt, o-lt, near-dist, sum-top}
-use Rattle.nearest.specs.Steps.{Row, coord-rank, coord-w, coord-d}
+use Rattle.nearest.specs.Shape.{oAt, o-lt, row-at, row-slots, row-d}
+use Rattle.nearest.specs.Candidate.{tAt, near-dist, sum-top}
+use Rattle.nearest.specs.Steps.{Row}
 use Rattle.nearest.specs.Bases.{base-good, base-num, cheap-member, own-cheap}
 use Rattle.nearest.specs.Solve.{solve-ok}
 
@@ -89,14 +90,10 @@ rows : (ts : List Float) (p c : ℕ) → p < 2 → Small8 ts → (s : ℕ) → s
 rows ts p c P0 T0 s S0 =
     let q = tame-at s S0 in
     record {
-      small = λ j h. subst (λ (x : Coord). natAbs (x .k0) < 16) (sym (at j h)) (k-small (tAt ts j) (sh s) (oAt p c j) (o-lt p c j P0) (T0 j h) (q .0) (q .1) (q .2));
-      rank-is = λ j f h l. subst (λ (x : Coord). getD (x .rank) f 0 ≡ markK (oAt p c j) (slotK (x .k0) f)) (sym (at j h)) (coord-rank (tAt ts j) (sh s) (oAt p c j) f l);
-      w-is = λ j f h l. subst (λ (x : Coord). getD (x .w) f 0 ≡ sq (markK (oAt p c j) (slotK (x .k0) f))) (sym (at j h)) (coord-w (tAt ts j) (sh s) (oAt p c j) f l);
-      d-is = λ j f h l. subst (λ (x : Coord). getD (x .d) f nan ≡ sqTo (member (oAt p c j) (slotK (x .k0) f)) (tAt ts j)) (sym (at j h)) (coord-d (tAt ts j) (sh s) (oAt p c j) f l);
+      small = λ j h. subst (λ (x : Coord). natAbs (x .k0) < 16) (sym (row-at ts p c s j h)) (k-small (tAt ts j) (sh s) (oAt p c j) (o-lt p c j P0) (T0 j h) (q .0) (q .1) (q .2));
+      slots = row-slots ts p c s;
+      d-is = row-d ts p c s;
     }
-  where
-    at : (j : ℕ) → j < 8 → coordAt (row ts p c s) j ≡ coordOf (tAt ts j) (sh s) (oAt p c j)
-    at j h = unfold row in tab-at Coord noCoord (λ j. coordOf (getD ts j nan) (getD shrinks s nan) (p + 2 * bitAt c j)) 8 j h
 
 -- ---- fallbacks
 pub record MoreTables (g : Tables) : Type 0 where
@@ -111,7 +108,7 @@ near-val : T (upto 4 (λ o. upto 16 (λ r. ltb (natAbs (valOf o r)) 128)))
 unfolding valOf
 near-val = tt
 
-val-small : (o r : ℕ) → o < 4 → r < 16 → natAbs (valOf o r) < 128
+pub val-small : (o r : ℕ) → o < 4 → r < 16 → natAbs (valOf o r) < 128
 val-small o r h l =
     ltb→lt (natAbs (valOf o r)) 128 (below 16 (λ r. ltb (natAbs (valOf o r)) 128) (below 4 (λ o. upto 16 (λ r. ltb (natAbs (valOf o r)) 128)) near-val o h) r l)
 

@@ -26,7 +26,8 @@ use Rattle.nearest.specs.Keys.{member-one, nib-lt}
 use Rattle.nearest.specs.Ints.{gapK, gap-is, odd-suc, odd-pred, abs-parts}
 use Rattle.nearest.specs.Base.{eqb-no, eqb-yes}
 use Rattle.nearest.specs.Lattice.{Sec, Same, dist8, M}
-use Rattle.nearest.specs.Candidate.{oAt, tAt, sqV, o-lt, term-le, holds-le, weight-le}
+use Rattle.nearest.specs.Shape.{oAt, o-lt, term-le, holds-le, weight-le}
+use Rattle.nearest.specs.Candidate.{tAt, sqV}
 use Rattle.nearest.specs.Premises.{Target16}
 
 -- two steps keep the parity, and move

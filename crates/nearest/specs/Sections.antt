@@ -19,10 +19,11 @@ use Rattle.search.specs.Entries.{Rule}
 use Rattle.search.specs.Parity.{Targets, search}
 use Rattle.search.specs.Record.{member, bitAt}
 use Rattle.search.specs.declared.Winner.{Winner}
-use Rattle.nearest.specs.Statement.{oddK, sumTo, parK, RuleOk, at24, pointOf, sections}
+use Rattle.search.specs.Block.{sections, pointAt}
+use Rattle.nearest.specs.Statement.{oddK, sumTo, parK, RuleOk, at24}
 use Rattle.nearest.specs.Sums.{sum-same}
 use Rattle.nearest.specs.Lattice.{Point, Same, dist8, dist24, Margin, M, own1, own2, own3}
-use Rattle.nearest.specs.Steps.{ltb-yes, ltb-no}
+use Rattle.nearest.specs.Shape.{ltb-yes, ltb-no}
 use Rattle.nearest.specs.Winner.{GoodTables, secOf}
 use Rattle.nearest.specs.Parities.{IsY}
 use Rattle.nearest.specs.Premises.{MoreTables, HasRows, Target16, class-cost, all-facts, demand-three}
@@ -65,7 +66,7 @@ eight P a b c d e f g h (suc (suc (suc (suc (suc (suc (suc (suc j)))))))) l = ab
     none : suc (suc (suc (suc (suc (suc (suc (suc j))))))) < 8 → ⊥
     none l = omega arith
 
-all24 : (P : ℕ → Type 0) → ((j : ℕ) → j < 8 → P j) → ((j : ℕ) → j < 8 → P (8 + j)) → ((j : ℕ) → j < 8 → P (16 + j)) → (j : ℕ) → j < 24 → P j
+pub all24 : (P : ℕ → Type 0) → ((j : ℕ) → j < 8 → P j) → ((j : ℕ) → j < 8 → P (8 + j)) → ((j : ℕ) → j < 8 → P (16 + j)) → (j : ℕ) → j < 24 → P j
 all24 P a b c j h = go (leb 16 j) (leb→le 16 j) (nleb→lt 16 j)
   where
     low : (t : Bool) → (T t → 8 ≤ j) → (T (not t) → j < 8) → j < 16 → P j
@@ -131,6 +132,32 @@ mod3 a b c = one (a + b) c ∙ ap (λ (z : ℕ). (z + c % 2) % 2) (one a b) ∙ 
 turn : (r d p : ℕ) → p < 2 → (r + d + (p + r + d) % 2) % 2 ≡ p
 turn r d p h = omega arith
 
+-- ---- three functions of eight as one of twenty-four
+unfoldable pub glue : {A : Type 0} → (ℕ → A) → (ℕ → A) → (ℕ → A) → ℕ → A
+glue a b c j = cond (ltb j 8) (a j) (cond (ltb j 16) (b (j - 8)) (c (j - 16)))
+
+pub glue1 : {A : Type 0} (a b c : ℕ → A) (j : ℕ) → j < 8 → glue a b c j ≡ a j
+unfolding glue
+glue1 a b c j h = ap (λ (t : Bool). cond t (a j) (cond (ltb j 16) (b (j - 8)) (c (j - 16)))) (ltb-yes j 8 h)
+
+pub glue2 : {A : Type 0} (a b c : ℕ → A) (j : ℕ) → j < 8 → glue a b c (8 + j) ≡ b j
+unfolding glue
+glue2 a b c j h =
+    ap (λ (t : Bool). cond t (a (8 + j)) (cond (ltb (8 + j) 16) (b (8 + j - 8)) (c (8 + j - 16)))) (ltb-no (8 + j) 8 (omega arith))
+    ∙ ap (λ (t : Bool). cond t (b (8 + j - 8)) (c (8 + j - 16))) (ltb-yes (8 + j) 16 (omega arith)) ∙ ap b (sub-add 8 j)
+  where
+    sub-add : (m j : ℕ) → m + j - m ≡ j
+    sub-add m j = omega arith
+
+pub glue3 : {A : Type 0} (a b c : ℕ → A) (j : ℕ) → j < 8 → glue a b c (16 + j) ≡ c j
+unfolding glue
+glue3 a b c j h =
+    ap (λ (t : Bool). cond t (a (16 + j)) (cond (ltb (16 + j) 16) (b (16 + j - 8)) (c (16 + j - 16)))) (ltb-no (16 + j) 8 (omega arith))
+    ∙ ap (λ (t : Bool). cond t (b (16 + j - 8)) (c (16 + j - 16))) (ltb-no (16 + j) 16 (omega arith)) ∙ ap c (sub-add 16 j)
+  where
+    sub-add : (m j : ℕ) → m + j - m ≡ j
+    sub-add m j = omega arith
+
 -- ---- a lattice point by sections
 module _ (g : Tables) (B : Bytes g) where
   abbrev c1 : ℕ → ℕ
@@ -176,31 +203,6 @@ module _ (g : Tables) (B : Bytes g) where
       rest a b c s p h k = omega arith
 
   -- and back
-  glue : {A : Type 0} → (ℕ → A) → (ℕ → A) → (ℕ → A) → ℕ → A
-  glue a b c j = cond (ltb j 8) (a j) (cond (ltb j 16) (b (j - 8)) (c (j - 16)))
-
-  glue1 : {A : Type 0} (a b c : ℕ → A) (j : ℕ) → j < 8 → glue a b c j ≡ a j
-  unfolding glue
-  glue1 a b c j h = ap (λ (t : Bool). cond t (a j) (cond (ltb j 16) (b (j - 8)) (c (j - 16)))) (ltb-yes j 8 h)
-
-  glue2 : {A : Type 0} (a b c : ℕ → A) (j : ℕ) → j < 8 → glue a b c (8 + j) ≡ b j
-  unfolding glue
-  glue2 a b c j h =
-      ap (λ (t : Bool). cond t (a (8 + j)) (cond (ltb (8 + j) 16) (b (8 + j - 8)) (c (8 + j - 16)))) (ltb-no (8 + j) 8 (omega arith))
-      ∙ ap (λ (t : Bool). cond t (b (8 + j - 8)) (c (8 + j - 16))) (ltb-yes (8 + j) 16 (omega arith)) ∙ ap b (sub-add 8 j)
-    where
-      sub-add : (m j : ℕ) → m + j - m ≡ j
-      sub-add m j = omega arith
-
-  glue3 : {A : Type 0} (a b c : ℕ → A) (j : ℕ) → j < 8 → glue a b c (16 + j) ≡ c j
-  unfolding glue
-  glue3 a b c j h =
-      ap (λ (t : Bool). cond t (a (16 + j)) (cond (ltb (16 + j) 16) (b (16 + j - 8)) (c (16 + j - 16)))) (ltb-no (16 + j) 8 (omega arith))
-      ∙ ap (λ (t : Bool). cond t (b (16 + j - 8)) (c (16 + j - 16))) (ltb-no (16 + j) 16 (omega arith)) ∙ ap c (sub-add 16 j)
-    where
-      sub-add : (m j : ℕ) → m + j - m ≡ j
-      sub-add m j = omega arith
-
   abbrev whole : (ℕ → ℤ) → (ℕ → ℤ) → (ℕ → ℤ) → List ℤ
   whole z1 z2 z3 = tab (glue z1 z2 z3) 24
 
@@ -345,9 +347,9 @@ module _ (g : Tables) (B : Bytes g) where
         is-y : IsY g u S G0 ps PS (λ q i. all-facts g G1 u U0 S small1 small2 small3 q (PS q i)) (sec1 y) (sec2 y) (sec3 y) margin (search g u S ps)
         is-y = demand-three g G0 G1 u U0 S small1 small2 small3 ps PS (L .p) I0 (sec1 y) (sec2 y) (sec3 y) Y W margin
 
-        pub point-at : (j : ℕ) → j < 24 → pointOf (search g u (sections t) ps) j ≡ at24 y j
+        pub point-at : (j : ℕ) → j < 24 → pointAt (search g u (sections t) ps) j ≡ at24 y j
         unfolding glue
-        point-at = all24 (λ j. pointOf (search g u (sections t) ps) j ≡ at24 y j)
+        point-at = all24 (λ j. pointAt (search g u (sections t) ps) j ≡ at24 y j)
             (λ j h. glue1 (secOf (w .p) (w .s1)) (secOf (w .p) (w .s2)) (secOf (w .p) (w .s3)) j h ∙ is-y .one j h)
             (λ j h. glue2 (secOf (w .p) (w .s1)) (secOf (w .p) (w .s2)) (secOf (w .p) (w .s3)) j h ∙ is-y .two j h)
             (λ j h. glue3 (secOf (w .p) (w .s1)) (secOf (w .p) (w .s2)) (secOf (w .p) (w .s3)) j h ∙ is-y .three j h)

@@ -89,3 +89,9 @@ odd-le f g k0 k w a b (suc n) d h s = go (λ m. odd-le f g k0 k w a b n m (λ j 
         let y = h n (le-refl (suc n)) in
         let z = c in
         omega arith
+
+-- the first term apart
+pub sum-front : (f : ℕ → ℕ) (n : ℕ) → f 0 + sumTo (λ j. f (suc j)) n ≡ sumTo f (suc n)
+unfolding sumTo
+sum-front f zero = omega arith
+sum-front f (suc n) = let a = sum-front f n in omega arith

@@ -16,7 +16,7 @@ use Rattle.search.specs.Tables.{tables, endByte, fallbackAt, middleSets, branch
 use Rattle.search.specs.Entries.{rankAt}
 use Rattle.nearest.specs.Statement.{sumTo, parK}
 use Rattle.nearest.specs.Keys.{kAt}
-use Rattle.nearest.specs.Candidate.{oAt}
+use Rattle.nearest.specs.Shape.{oAt}
 use Rattle.nearest.specs.Entries.{EndByte}
 use Rattle.nearest.specs.Winner.{GoodTables}
 use Rattle.nearest.specs.Premises.{MoreTables}

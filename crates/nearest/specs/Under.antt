@@ -61,26 +61,26 @@ under-at x y {B} a h u = record { fit = a .fit; fin = a .fin; below = go (posUni
         omega arith
 
 -- comparisons with infinity
-lt-inf : (x : Float) → T (finite x) → lt infinity x ≡ false
+pub lt-inf : (x : Float) → T (finite x) → lt infinity x ≡ false
 unfolding lt
 lt-inf nan h = refl
 lt-inf (inf false) h = refl
 lt-inf (inf true) h = refl
 lt-inf (fin s m e) h = refl
 
-inf-lt : (x : Float) → T (finite x) → lt x infinity ≡ true
+pub inf-lt : (x : Float) → T (finite x) → lt x infinity ≡ true
 unfolding lt
 inf-lt nan h = absurd h
 inf-lt (inf s) h = absurd h
 inf-lt (fin s m e) h = refl
 
-le-inf : (x : Float) → T (finite x) → le infinity x ≡ false
+pub le-inf : (x : Float) → T (finite x) → le infinity x ≡ false
 unfolding le lt eq
 le-inf nan h = absurd h
 le-inf (inf s) h = absurd h
 le-inf (fin s m e) h = refl
 
-clash : {b : Bool} → b ≡ true → b ≡ false → ⊥
+pub clash : {b : Bool} → b ≡ true → b ≡ false → ⊥
 clash p q = subst T (sym p ∙ q) tt
 
 yes-T : {b : Bool} → b ≡ true → T b

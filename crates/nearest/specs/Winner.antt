@@ -36,6 +36,22 @@ pub record GoodTables (g : Tables) : Type 0 where
   pub nxt-lt : (k : ℕ) → k < 1024 → getD (g .nxt) k 0 < 64
   pub ix-byte : (k : ℕ) → k < 1024 → getD (g .sets) (getD (g .ix) k 0) 0 ≡ getD (g .mid) k 0
 
+-- ---- the entries of a path
+branch-lt : (i n : ℕ) → n < 32 → i % 64 * 16 + n / 2 < 1024
+branch-lt i n h = let a = mod-lt i (zero-lt-suc 63) in omega arith
+
+pub mid-at-lt : (g : Tables) → GoodTables g → (i n : ℕ) → n < 32 → midAt g i n < 256
+mid-at-lt g G i n h = go (getD (g .ix) (i % 64 * 16 + n / 2) 0) n (G .ix-lt (i % 64 * 16 + n / 2) (branch-lt i n h))
+  where
+    go : (x n : ℕ) → x < 128 → 2 * x + n % 2 < 256
+    go x n h = let a = mod-lt n (zero-lt-suc 1) in omega arith
+
+pub last-at-lt : (g : Tables) → GoodTables g → (p i n : ℕ) → n < 32 → lastAt g p i n < 128
+last-at-lt g G p i n h = go (getD (g .nxt) (i % 64 * 16 + n / 2) 0) (p + i / 64 + n % 2) (G .nxt-lt (i % 64 * 16 + n / 2) (branch-lt i n h))
+  where
+    go : (x q : ℕ) → x < 64 → q % 2 * 64 + x < 128
+    go x q h = omega arith
+
 -- ---- a path of three entries
 abbrev sum3 : Entry → Entry → Entry → Float
 sum3 a b c = add binary64 (add binary64 (a .value) (b .value)) (c .value)
@@ -94,20 +110,11 @@ no-way : false ≡ true → ⊥
 no-way q = subst T (sym q) tt
 
 module _ (g : Tables) (t : Targets) (p : ℕ) (P0 : p < 2) (G : GoodTables g) (s : Sides) (F : AllFinal g t p s) where
-  at-lt : (i n : ℕ) → n < 32 → i % 64 * 16 + n / 2 < 1024
-  at-lt i n h = let a = mod-lt i (zero-lt-suc 63) in omega arith
-
   m-lt : (i n : ℕ) → n < 32 → midAt g i n < 256
-  m-lt i n h = go (getD (g .ix) (i % 64 * 16 + n / 2) 0) n (G .ix-lt (i % 64 * 16 + n / 2) (at-lt i n h))
-    where
-      go : (x n : ℕ) → x < 128 → 2 * x + n % 2 < 256
-      go x n h = let a = mod-lt n (zero-lt-suc 1) in omega arith
+  m-lt = mid-at-lt g G
 
   n-lt : (i n : ℕ) → n < 32 → lastAt g p i n < 128
-  n-lt i n h = go (getD (g .nxt) (i % 64 * 16 + n / 2) 0) (p + i / 64 + n % 2) (G .nxt-lt (i % 64 * 16 + n / 2) (at-lt i n h))
-    where
-      go : (x q : ℕ) → x < 64 → q % 2 * 64 + x < 128
-      go x q h = omega arith
+  n-lt = last-at-lt g G p
 
   pub way-num : (i n : ℕ) → i < 128 → n < 32 → Num (costAt g p s i n)
   way-num i n h k = cost-num t (entAt (s .e1) i) (entAt (s .e2) (midAt g i n)) (entAt (s .e3) (lastAt g p i n)) (F .one i h) (F .two (midAt g i n) (m-lt i n k)) (F .three (lastAt g p i n) (n-lt i n k))
@@ -148,7 +155,7 @@ module _ (g : Tables) (t : Targets) (p : ℕ) (P0 : p < 2) (G : GoodTables g) (s
           let b = q .1 in
           let c = q .2 in
           let y = getD (g .nxt) (i % 64 * 16 + n / 2) 0 in
-          let y-lt = G .nxt-lt (i % 64 * 16 + n / 2) (at-lt i n k) in
+          let y-lt = G .nxt-lt (i % 64 * 16 + n / 2) (branch-lt i n k) in
           record {
             point = record {
               s8 = i % 64;
@@ -165,7 +172,7 @@ module _ (g : Tables) (t : Targets) (p : ℕ) (P0 : p < 2) (G : GoodTables g) (s
               r2-lt = mod-lt n (zero-lt-suc 1);
               sec1 = subst (λ (x : ℕ). Sec p x (i / 64) (secOf p (entAt (s .e1) i))) (a .byte .2) (a .stands .sec);
               sec2 = subst (λ (x : ℕ). Sec p x (n % 2) (secOf p (entAt (s .e2) (midAt g i n))))
-                  (b .byte ∙ ap (λ (m : ℕ). getD (g .sets) m 0) (mid-half (getD (g .ix) (i % 64 * 16 + n / 2) 0) n) ∙ G .ix-byte (i % 64 * 16 + n / 2) (at-lt i n k))
+                  (b .byte ∙ ap (λ (m : ℕ). getD (g .sets) m 0) (mid-half (getD (g .ix) (i % 64 * 16 + n / 2) 0) n) ∙ G .ix-byte (i % 64 * 16 + n / 2) (branch-lt i n k))
                   (subst (λ (r : ℕ). Sec p (entAt (s .e2) (midAt g i n) .byte) r (secOf p (entAt (s .e2) (midAt g i n)))) (mid-bit (getD (g .ix) (i % 64 * 16 + n / 2) 0) n) (b .stands .sec));
               sec3 = subst (λ (x : ℕ). Sec p x ((p + i / 64 + n % 2) % 2) (secOf p (entAt (s .e3) (lastAt g p i n))))
                   (c .byte .2 ∙ ap (λ (m : ℕ). getD (g .suf) (2 * m + c .byte .0) 0) (end-rest (p + i / 64 + n % 2) (getD (g .nxt) (i % 64 * 16 + n / 2) 0) y-lt))

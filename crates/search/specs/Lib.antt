@@ -8,3 +8,4 @@ pub mod Join
 pub mod Parity
 pub mod Block
 pub mod TableLaws
+pub mod ParityLaws

@@ -61,11 +61,11 @@ class-three u v w =
         ∙ ap (λ (x : ℕ). x % 2) (sym (add-assoc (a % 2) (b % 2) (c % 2)))
 
 -- ---- the sum of k over a row of 24 coordinates of one parity whose bits are a codeword: its weight is even, so bits count for nothing
-even-times : (p m : ℕ) → m % 2 ≡ 0 → (p * m) % 2 ≡ 0
+pub even-times : (p m : ℕ) → m % 2 ≡ 0 → (p * m) % 2 ≡ 0
 even-times zero m e = ap (λ (x : ℕ). x % 2) (zero-mul m)
 even-times (suc p) m e = omega (arith, even-times p m e, suc-mul p m)
 
-drop-even : (a b : ℕ) → b % 2 ≡ 0 → (a + b) % 2 ≡ a % 2
+pub drop-even : (a b : ℕ) → b % 2 ≡ 0 → (a + b) % 2 ≡ a % 2
 drop-even a b e = omega arith
 
 weight-same : (d w : ℕ) → weight d w ≡ code.weight d w

@@ -1,12 +1,10 @@
--- Demand 3: where one point of the Leech lattice, among those of the parities searched, is nearer to the target than every other by more than
--- 2^-20 in exact squared distance, and has a word, the search at one scale returns that point. The words of the statement are in Statement;
--- the theorem is `nearest`, and for the two coders `nearest-full` and `nearest-even`.
+-- The theorem at the constant tables and in natural order, over the lattice in the form that the proof works with (Statement).
 use mathlib.Core.Path.{_≡_, refl, sym, ap, ap₂, _∙_, subst}
 use mathlib.Core.Logic.{_≢_}
 use mathlib.Core.Bool.{true}
-use mathlib.Core.List.{List, [], _∷_, List·Memᴰ, List·Memᴰ·head, List·Memᴰ·tail, List·Memᴰ·not-nil}
-use Prim.Native.Nat.{ℕ, zero, suc, _+_, _*_, _/_, _%_, _<_}
-use native.Mathlib.Nat.{mod-lt, zero-lt-suc, le-refl}
+use mathlib.Core.List.{List, [], _∷_, List·Memᴰ}
+use Prim.Native.Nat.{ℕ, suc, _+_, _*_, _/_, _%_, _<_}
+use native.Mathlib.Nat.{mod-lt, zero-lt-suc}
 use native.Mathlib.Omega.{arith}
 use lib.Dec.{T}
 use lib.ListN.{getD, length}
@@ -26,9 +24,10 @@ use Rattle.search.specs.declared.Closed.{Closed}
 use Rattle.search.specs.Record.{bitAt, member}
 use Rattle.search.specs.Tables.{tables, classOf}
 use Rattle.search.specs.Entries.{Rule}
-use Rattle.search.specs.Parity.{search, bothParities}
-use Rattle.nearest.specs.Statement.{sumTo, RowOf, coordinate, place, Leech, HasWord, Target, trioOf, targetsOf, pointFrom, RuleOk, at24, pointOf}
-use Rattle.nearest.specs.Sums.{sum-same}
+use Rattle.search.specs.Parity.{search}
+use Rattle.search.specs.Block.{coordinate, trioOf, targetsOf, pointAt, place, pointFrom}
+use Rattle.nearest.specs.Statement.{sumTo, RowOf, Leech, HasWord, RuleOk, at24}
+use Rattle.nearest.specs.Sums.{sum-same, sum-front}
 use Rattle.nearest.specs.Premises.{HasRows}
 use Rattle.nearest.specs.Sections.{pathOf, LeechTrio, sqDist24, point-of, point-at, is-found, up8, up16, up24}
 use Rattle.nearest.specs.TableFacts.{prefix-read, middle-read, next-read, suffix-read, tables-bytes, tables-good, tables-more}
@@ -36,11 +35,6 @@ use Rattle.nearest.specs.TableFacts.{prefix-read, middle-read, next-read
 -- ---- the exact distance, coordinate by coordinate
 abbrev sqc : ℤ → Float → ℕ
 sqc v x = coordGap v x * coordGap v x
-
-front : (f : ℕ → ℕ) (n : ℕ) → f 0 + sumTo (λ j. f (suc j)) n ≡ sumTo f (suc n)
-unfolding sumTo
-front f zero = omega arith
-front f (suc n) = let a = front f n in omega arith
 
 pub dist-sum : (z : List ℤ) (t : List Float) → length z ≡ length t → sqDist z t ≡ sumTo (λ j. sqc (at24 z j) (getD t j nan)) (length z)
 unfolding sqDist sumTo
@@ -50,7 +44,7 @@ dist-sum (v ∷ z) [] e = absurd (none e)
     none : suc (length z) ≡ 0 → ⊥
     none e = omega arith
 dist-sum (v ∷ z) (x ∷ t) e =
-    ap (λ (n : ℕ). sqc v x + n) (dist-sum z t (down e)) ∙ front (λ j. sqc (at24 (v ∷ z) j) (getD (x ∷ t) j nan)) (length z)
+    ap (λ (n : ℕ). sqc v x + n) (dist-sum z t (down e)) ∙ sum-front (λ j. sqc (at24 (v ∷ z) j) (getD (x ∷ t) j nan)) (length z)
   where
     down : suc (length z) ≡ suc (length t) → length z ≡ length t
     down e = omega arith
@@ -124,8 +118,10 @@ module _ (y : List ℤ) where
     unfolding in-trio point-of
     in-rows W =
         record {
-          one = row-as (L .p) (first (wordOf columns (L .x))) _ _ _ (λ j. at24 y (coordinate j)) _ (first-at (L .x) ∙ byte1 (L .x)) refl (λ j h. trio-at j (up8 h)) (W .one);
-          two = row-as (L .p) (second (wordOf columns (L .x))) _ _ _ (λ j. at24 y (coordinate (8 + j))) _ (second-at (L .x) ∙ byte2 (L .x)) refl (λ j h. trio-at (8 + j) (up16 h)) (W .two);
+          one = row-as (L .p) (first (wordOf columns (L .x))) _ _ _
+              (λ j. at24 y (coordinate j)) _ (first-at (L .x) ∙ byte1 (L .x)) refl (λ j h. trio-at j (up8 h)) (W .one);
+          two = row-as (L .p) (second (wordOf columns (L .x))) _ _ _
+              (λ j. at24 y (coordinate (8 + j))) _ (second-at (L .x) ∙ byte2 (L .x)) refl (λ j h. trio-at (8 + j) (up16 h)) (W .two);
           three =
               row-as (L .p) (third (wordOf columns (L .x))) _ _ _ (λ j. at24 y (coordinate (16 + j))) _ (third-at (L .x) ∙ byte3 (L .x) (L .x-lt))
               (ap (classOf tables) (point-of tables tables-bytes trio in-trio .sec3 .class)) (λ j h. trio-at (16 + j) (up24 h)) (W .three);
@@ -156,28 +152,29 @@ module _ (z : List ℤ) where
 
 -- ---- the theorem
 -- t is the target, ps the parities searched, y the point, u the setting
-pub nearest : (t : List Float) → Target t → (ps : List ℕ) → ((q : ℕ) → List·Memᴰ q ps → q < 2)
-    → (y : List ℤ) (L : Leech y) → List·Memᴰ (L .p) ps → HasWord y L
+pub in-natural-order : (t : List Float) → length t ≡ 24 → ((j : ℕ) → j < 24 → T (fits binary64 (getD t j nan)))
+    → ((j : ℕ) → j < 24 → T (finite (getD t j nan))) → (ps : List ℕ) → ((q : ℕ) → List·Memᴰ q ps → q < 2) → (y : List ℤ) (L : Leech y)
+    → List·Memᴰ (L .p) ps → HasWord y L
     → ((z : List ℤ) (Z : Leech z) → List·Memᴰ (Z .p) ps → z ≢ y → sqDist y t + margin < sqDist z t)
     → (u : Rule) → RuleOk u
     → (search tables u (targetsOf t) ps .found ≡ true) × (pointFrom (search tables u (targetsOf t) ps) ≡ y)
 unfolding in-trio
-nearest t D ps PS y L I0 W H u U0 =
+in-natural-order t len fit fin ps PS y L I0 W H u U0 =
     (is-found tables tables-bytes (trioOf t) ps PS (trio y) far tables-good tables-more u U0 (in-trio y L) I0 (in-rows y L W) fit' fin', all)
   where
     t-at : (j : ℕ) → j < 24 → getD (trioOf t) j nan ≡ getD t (coordinate j) nan
     t-at j h = tab-at Float nan (λ j. getD t (coordinate j) nan) 24 j h
 
     fit' : (j : ℕ) → j < 24 → T (fits binary64 (getD (trioOf t) j nan))
-    fit' j h = subst (λ (x : Float). T (fits binary64 x)) (sym (t-at j h)) (D .fit (coordinate j) (trio-fits j h .order-lt))
+    fit' j h = subst (λ (x : Float). T (fits binary64 x)) (sym (t-at j h)) (fit (coordinate j) (trio-fits j h .order-lt))
 
     fin' : (j : ℕ) → j < 24 → T (finite (getD (trioOf t) j nan))
-    fin' j h = subst (λ (x : Float). T (finite x)) (sym (t-at j h)) (D .fin (coordinate j) (trio-fits j h .order-lt))
+    fin' j h = subst (λ (x : Float). T (finite x)) (sym (t-at j h)) (fin (coordinate j) (trio-fits j h .order-lt))
 
     far : (z : List ℤ) (Z : LeechTrio tables z) → List·Memᴰ (Z .p) ps → z ≢ trio y → sqDist24 (trio y) (trioOf t) + margin < sqDist24 z (trioOf t)
     far z Z m d =
-        subst (λ (a : ℕ). a + margin < sqDist24 z (trioOf t)) (dist-trio t (D .len) y (trio y) (L .len) (λ j h. sym (trio-at y j h)))
-        (subst (λ (b : ℕ). sqDist y t + margin < b) (dist-trio t (D .len) (natural z) z (tab-length ℤ (λ i. at24 z (place i)) 24) (natural-at z))
+        subst (λ (a : ℕ). a + margin < sqDist24 z (trioOf t)) (dist-trio t len y (trio y) (L .len) (λ j h. sym (trio-at y j h)))
+        (subst (λ (b : ℕ). sqDist y t + margin < b) (dist-trio t len (natural z) z (tab-length ℤ (λ i. at24 z (place i)) 24) (natural-at z))
         (H (natural z) (in-natural z Z) (unfold in-natural in m) apart))
       where
         apart : natural z ≢ y
@@ -186,43 +183,14 @@ nearest t D ps PS y L I0 W H u U0 =
             (λ j h. let l : j < 24 = subst (λ (n : ℕ). j < n) (Z .len) h in
             sym (natural-at z j l) ∙ ap (λ (v : List ℤ). at24 v (coordinate j)) e ∙ sym (trio-at y j l)))
 
-    at : (j : ℕ) → j < 24 → pointOf (search tables u (targetsOf t) ps) j ≡ at24 (trio y) j
+    at : (j : ℕ) → j < 24 → pointAt (search tables u (targetsOf t) ps) j ≡ at24 (trio y) j
     at = point-at tables tables-bytes (trioOf t) ps PS (trio y) far tables-good tables-more u U0 (in-trio y L) I0 (in-rows y L W) fit' fin'
 
     all : pointFrom (search tables u (targetsOf t) ps) ≡ y
     all =
-        ext-getD (pos 0) (pointFrom (search tables u (targetsOf t) ps)) y (tab-length ℤ (λ i. pointOf (search tables u (targetsOf t) ps) (place i)) 24 ∙ sym (L .len))
-        (λ i h. let l : i < 24 = subst (λ (n : ℕ). i < n) (tab-length ℤ (λ i. pointOf (search tables u (targetsOf t) ps) (place i)) 24) h in
+        ext-getD (pos 0) (pointFrom (search tables u (targetsOf t) ps)) y
+        (tab-length ℤ (λ i. pointAt (search tables u (targetsOf t) ps) (place i)) 24 ∙ sym (L .len))
+        (λ i h. let l : i < 24 = subst (λ (n : ℕ). i < n) (tab-length ℤ (λ i. pointAt (search tables u (targetsOf t) ps) (place i)) 24) h in
         let f = trio-fits i l in
-        tab-at ℤ (pos 0) (λ i. pointOf (search tables u (targetsOf t) ps) (place i)) 24 i l ∙ at (place i) (f .place-lt) ∙ trio-at y (place i) (f .place-lt) ∙ ap (at24 y) (f .order-place))
-
--- ---- the full coder searches both parities: the lattice points are all there are
-both-lt : (q : ℕ) → List·Memᴰ q bothParities → q < 2
-both-lt q (List·Memᴰ·head e) = subst (λ (n : ℕ). n < 2) (sym e) (zero-lt-suc 1)
-both-lt q (List·Memᴰ·tail (List·Memᴰ·head e)) = subst (λ (n : ℕ). n < 2) (sym e) (le-refl 2)
-both-lt q (List·Memᴰ·tail (List·Memᴰ·tail m)) = absurd (List·Memᴰ·not-nil m)
-
-in-both : (q : ℕ) → q < 2 → List·Memᴰ q bothParities
-in-both zero h = List·Memᴰ·head refl
-in-both (suc zero) h = List·Memᴰ·tail (List·Memᴰ·head refl)
-in-both (suc (suc q)) h = absurd (none h)
-  where
-    none : suc (suc q) < 2 → ⊥
-    none h = omega arith
-
-pub nearest-full : (t : List Float) → Target t → (y : List ℤ) (L : Leech y) → HasWord y L
-    → ((z : List ℤ) → Leech z → z ≢ y → sqDist y t + margin < sqDist z t) → (u : Rule) → RuleOk u
-    → (search tables u (targetsOf t) bothParities .found ≡ true) × (pointFrom (search tables u (targetsOf t) bothParities) ≡ y)
-nearest-full t D y L W H u U0 = nearest t D bothParities both-lt y L (in-both (L .p) (L .p-lt)) W (λ z Z m d. H z Z d) u U0
-
--- ---- the even profile searches parity 0: the lattice points are the even ones
-only-zero : (q : ℕ) → List·Memᴰ q (0 ∷ []) → q ≡ 0
-only-zero q (List·Memᴰ·head e) = e
-only-zero q (List·Memᴰ·tail m) = absurd (List·Memᴰ·not-nil m)
-
-pub nearest-even : (t : List Float) → Target t → (y : List ℤ) (L : Leech y) → L .p ≡ 0 → HasWord y L
-    → ((z : List ℤ) (Z : Leech z) → Z .p ≡ 0 → z ≢ y → sqDist y t + margin < sqDist z t) → (u : Rule) → RuleOk u
-    → (search tables u (targetsOf t) (0 ∷ []) .found ≡ true) × (pointFrom (search tables u (targetsOf t) (0 ∷ [])) ≡ y)
-nearest-even t D y L e W H u U0 =
-    nearest t D (0 ∷ []) (λ q m. subst (λ (n : ℕ). n < 2) (sym (only-zero q m)) (zero-lt-suc 1)) y L (List·Memᴰ·head e) W
-    (λ z Z m d. H z Z (only-zero (Z .p) m) d) u U0
+        tab-at ℤ (pos 0) (λ i. pointAt (search tables u (targetsOf t) ps) (place i)) 24 i l ∙ at (place i) (f .place-lt)
+        ∙ trio-at y (place i) (f .place-lt) ∙ ap (at24 y) (f .order-place))

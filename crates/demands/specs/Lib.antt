@@ -1,0 +1,4 @@
+pub mod Targets
+pub mod Codes
+pub mod Scales
+pub mod Nearest

@@ -1,0 +1,44 @@
+-- The parities searched: a winner that was found is of one of them. Assumes nothing.
+use mathlib.Core.Path.{_≡_, refl, sym, ap, _∙_, subst}
+use mathlib.Core.Logic.{_⊎_, inl, inr}
+use mathlib.Core.Bool.{Bool, true, false, cond, not, _&&_, _||_}
+use mathlib.Core.List.{List, [], _∷_, List·Memᴰ, List·Memᴰ·head, List·Memᴰ·tail}
+use Prim.Native.Nat.{ℕ}
+use lib.Dec.{T}
+use lib.Ieee.{lt}
+use Rattle.search.specs.declared.Winner.{Winner}
+use Rattle.search.specs.Tables.{Tables}
+use Rattle.search.specs.Entries.{Rule}
+use Rattle.search.specs.Parity.{Targets, parity, nobody, costOf, searchOver, search}
+
+module _ (g : Tables) (u : Rule) (t : Targets) where
+  parity-is : (p : ℕ) (w : Winner) → parity g u t p (costOf w) .p ≡ p
+  unfolding parity
+  parity-is p w = refl
+
+  -- what stands at the end stood at the start, or is of a parity searched
+  abbrev Among : Winner → Winner → List ℕ → Type 0
+  Among best w ps = (w ≡ best) ⊎ List·Memᴰ (w .p) ps
+
+  among : (best : Winner) (ps : List ℕ) → Among best (searchOver g u t best ps) ps
+  unfolding searchOver
+  among best [] = inl refl
+  among best (p ∷ ps) = go (new .found && (not (best .found) || lt (new .cost) (best .cost))) (among new ps) (among best ps)
+    where
+      new : Winner
+      new = parity g u t p (costOf best)
+
+      go : (b : Bool) → Among new (searchOver g u t new ps) ps → Among best (searchOver g u t best ps) ps
+          → Among best (searchOver g u t (cond b new best) ps) (p ∷ ps)
+      go true (inl e) n = inr (List·Memᴰ·head (ap (λ (w : Winner). w .p) e ∙ parity-is p best))
+      go true (inr m) n = inr (List·Memᴰ·tail m)
+      go false m (inl e) = inl e
+      go false m (inr n) = inr (List·Memᴰ·tail n)
+
+  pub found-among : (ps : List ℕ) → search g u t ps .found ≡ true → List·Memᴰ (search g u t ps .p) ps
+  unfolding search
+  found-among ps f = go (among nobody ps)
+    where
+      go : (searchOver g u t nobody ps ≡ nobody) ⊎ List·Memᴰ (searchOver g u t nobody ps .p) ps → List·Memᴰ (searchOver g u t nobody ps .p) ps
+      go (inl e) = absurd (subst T (sym f ∙ ap (λ (w : Winner). w .found) e) tt)
+      go (inr m) = m
