@@ -7,7 +7,7 @@ use lib.IntN.{ℤ}
 use lib.Ieee.{Float}
 use lib.ListN.{length}
 use Rattle.encoder.specs.declared.Code.{Code}
-use Rattle.exports.specs.Calls.{roomFirst, short, left, atFront, codeNumber}
+use Rattle.exports.specs.Calls.{roomFirst, short, left, codeNumber, leftPoint}
 
 -- ---- written where the number is 0
 module _ (A : Type 0) (k : ℕ) (new old : A) where
@@ -41,9 +41,9 @@ pub coded : (x : List Float) (old : List ℤ) (was : ℕ) (t : Float) (c d : Cod
     → (r w : ℕ) (p : List ℤ) (s : Float)
     → (r ≡ c .number)
     × ((w ≡ left (c .number) (c .word) was)
-    × ((p ≡ left (c .number) (atFront (c .point) old) old) × (s ≡ left (c .number) (c .score) t)))
+    × ((p ≡ leftPoint (c .number) c old) × (s ≡ left (c .number) (c .score) t)))
     → (r ≡ codeNumber x old d)
-    × ((w ≡ left r (d .word) was) × ((p ≡ left r (atFront (d .point) old) old) × (s ≡ left r (d .score) t)))
+    × ((w ≡ left r (d .word) was) × ((p ≡ leftPoint r d old) × (s ≡ left r (d .score) t)))
 coded x old was t c d h l e r w p s q =
     let n = q .0 in
     (n ∙ ap (λ (a : Code). a .number) e ∙ both x old d h l, (rw (n, ← e) (q .1 .0), (rw (n, ← e) (q .1 .1 .0), rw (n, ← e) (q .1 .1 .1))))

@@ -59,6 +59,10 @@ atOwnScale x = encodeSamples (take 24 x)
 abbrev pub codeNumber : List Float → List ℤ → Code → ℕ
 codeNumber x old c = roomFirst (short x || short old) (c .number)
 
+-- what that slice then holds, where the number is k
+abbrev pub leftPoint : ℕ → Code → List ℤ → List ℤ
+leftPoint k c old = left k (atFront (c .point) old) old
+
 -- ---- a page's text to its counts, into a slice that held `old`: 9 stands before 8
 abbrev pub pageNumber : List ℕ → List ℤ → ℕ
 pageNumber text old = readOf (readingOf text) (length old) .number

@@ -1,10 +1,11 @@
 // The calls for programs in other languages: include/yultarvas.h declares them for C, bindings/rust for Rust. A slice is a pointer and a
 // length, in this order; a cell is a pointer. Each call answers a number: 0, or that of the refusal, and then nothing that was lent is written.
-// It is 8 where a slice has fewer places than a block, which is asked first.
+// A block stands at a slice's start. 8 says that a slice is too short for it, and stands before all other numbers; of a page after 9.
 ghost use mathlib.Core.Path.{_≡_};
 ghost use Prim.Native.Nat.{_≤_};
 ghost use lib.ListN.{length, take};
-ghost use Rattle.exports.specs.Calls.{left, atFront, decodeNumber, decodePoint, pointNumber, pointWord, atScale, atOwnScale, codeNumber, pageNumber, pageBlocks, pageCells};
+ghost use Rattle.exports.specs.Calls.{left, atFront, decodeNumber, decodePoint, pointNumber, pointWord};
+ghost use Rattle.exports.specs.Calls.{atScale, atOwnScale, codeNumber, leftPoint, pageNumber, pageBlocks, pageCells};
 use encoder::Code;
 
 // A slice is too short.
@@ -50,7 +51,7 @@ fn put_code(c: Code, word: &mut u64, point: &mut [i32], score: &mut f64) -> u32
     requires { ⌜ 24 ≤ length (now point) ⌝ }
     ensures { λ r. ⌜ r ≡ c .number ⌝ }
     ensures { λ r. ⌜ now (word .exit) ≡ left (c .number) (c .word) (now (word .entry)) ⌝ }
-    ensures { λ r. ⌜ now (point .exit) ≡ left (c .number) (atFront (c .point) (now (point .entry))) (now (point .entry)) ⌝ }
+    ensures { λ r. ⌜ now (point .exit) ≡ leftPoint (c .number) c (now (point .entry)) ⌝ }
     ensures { λ r. ⌜ now (score .exit) ≡ left (c .number) (c .score) (now (score .entry)) ⌝ }
 {
     let number = c.number;
@@ -108,7 +109,7 @@ pub extern "C" fn yultarvas_encode_at_scale(
 ) -> u32
     ensures { λ r. ⌜ r ≡ codeNumber (now (samples .entry)) (now (point .entry)) (atScale (now (samples .entry)) scale setting) ⌝ }
     ensures { λ r. ⌜ now (word .exit) ≡ left r (atScale (now (samples .entry)) scale setting .word) (now (word .entry)) ⌝ }
-    ensures { λ r. ⌜ now (point .exit) ≡ left r (atFront (atScale (now (samples .entry)) scale setting .point) (now (point .entry))) (now (point .entry)) ⌝ }
+    ensures { λ r. ⌜ now (point .exit) ≡ leftPoint r (atScale (now (samples .entry)) scale setting) (now (point .entry)) ⌝ }
     ensures { λ r. ⌜ now (score .exit) ≡ left r (atScale (now (samples .entry)) scale setting .score) (now (score .entry)) ⌝ }
 {
     if samples.len() < 24 {
@@ -131,7 +132,7 @@ pub extern "C" fn yultarvas_encode(
 ) -> u32
     ensures { λ r. ⌜ r ≡ codeNumber (now (samples .entry)) (now (point .entry)) (atOwnScale (now (samples .entry))) ⌝ }
     ensures { λ r. ⌜ now (word .exit) ≡ left r (atOwnScale (now (samples .entry)) .word) (now (word .entry)) ⌝ }
-    ensures { λ r. ⌜ now (point .exit) ≡ left r (atFront (atOwnScale (now (samples .entry)) .point) (now (point .entry))) (now (point .entry)) ⌝ }
+    ensures { λ r. ⌜ now (point .exit) ≡ leftPoint r (atOwnScale (now (samples .entry))) (now (point .entry)) ⌝ }
     ensures { λ r. ⌜ now (score .exit) ≡ left r (atOwnScale (now (samples .entry)) .score) (now (score .entry)) ⌝ }
 {
     if samples.len() < 24 {

@@ -35,7 +35,8 @@ returns-3 c =
     let e = c .before .before .before .before .before in
     let i = e .before .before in
     let a = i .before .before .before .args in
-    coded (a .samples .now) (a .point .now) (a .word .now) (a .score .now) (e .encode .result) (atOwnScale (a .samples .now)) (i .before .if1 .left) (i .if2 .left)
+    let d = atOwnScale (a .samples .now) in
+    coded (a .samples .now) (a .point .now) (a .word .now) (a .score .now) (e .encode .result) d (i .before .if1 .left) (i .if2 .left)
     (e .encode .ensures ∙ ap encodeSamples (e .before .samples-of .ensures)) (p .result) _ _ _ (p .ensures)
 
 pub yultarvas-encode-spec : {M : Type 1} → statement M

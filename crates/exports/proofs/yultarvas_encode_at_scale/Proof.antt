@@ -12,12 +12,14 @@ use Rattle.exports.proofs.yultarvas_encode_at_scale.Tie as tie
 returns : tie.Need-returns
 returns c =
     let a = c .before .before .args in
-    (no-samples (a .samples .now) (a .point .now) (atScale (a .samples .now) (a .scale) (a .setting)) (c .if1 .taken), (refl, (refl, refl)))
+    let d = atScale (a .samples .now) (a .scale) (a .setting) in
+    (no-samples (a .samples .now) (a .point .now) d (c .if1 .taken), (refl, (refl, refl)))
 
 returns-2 : tie.Need-returns-2
 returns-2 c =
     let a = c .before .before .before .args in
-    (no-cells (a .samples .now) (a .point .now) (atScale (a .samples .now) (a .scale) (a .setting)) (c .before .if1 .left) (c .if2 .taken), (refl, (refl, refl)))
+    let d = atScale (a .samples .now) (a .scale) (a .setting) in
+    (no-cells (a .samples .now) (a .point .now) d (c .before .if1 .left) (c .if2 .taken), (refl, (refl, refl)))
 
 samples-of-requires : tie.Need-samples-of-requires
 samples-of-requires c κs = search needs
@@ -37,8 +39,10 @@ returns-3 c =
     let e = c .before .before .before .before .before in
     let i = e .before .before in
     let a = i .before .before .before .args in
-    coded (a .samples .now) (a .point .now) (a .word .now) (a .score .now) (e .encode-at-scale .result) (atScale (a .samples .now) (a .scale) (a .setting)) (i .before .if1 .left) (i .if2 .left)
-    (e .encode-at-scale .ensures ∙ ap (λ (x : List Float). encodeAtScale x (a .scale) (a .setting)) (e .before .samples-of .ensures)) (p .result) _ _ _ (p .ensures)
+    let d = atScale (a .samples .now) (a .scale) (a .setting) in
+    let q = ap (λ (x : List Float). encodeAtScale x (a .scale) (a .setting)) (e .before .samples-of .ensures) in
+    coded (a .samples .now) (a .point .now) (a .word .now) (a .score .now) (e .encode-at-scale .result) d (i .before .if1 .left) (i .if2 .left)
+    (e .encode-at-scale .ensures ∙ q) (p .result) _ _ _ (p .ensures)
 
 pub yultarvas-encode-at-scale-spec : {M : Type 1} → statement M
 yultarvas-encode-at-scale-spec =
