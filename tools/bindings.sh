@@ -6,6 +6,10 @@
 set -euo pipefail
 cd "$(dirname "$0")/.."
 if [ -z "${YULTARVAS_LIB:-}" ]; then
+    if [ "$(uname -m)" != x86_64 ]; then
+        echo "the library is built for x86-64, and this is $(uname -m): set YULTARVAS_LIB" >&2
+        exit 2
+    fi
     rt staticlib exports
     YULTARVAS_LIB=$PWD/target/staticlib
 fi
