@@ -4,6 +4,7 @@
 # It needs x86-64 Linux, for which the library is built, with cargo and a C compiler (CC, or cc). Elsewhere YULTARVAS_LIB names a folder with
 # a libexports.a for the machine, and nothing is built.
 set -euo pipefail
+if [ -n "${YULTARVAS_LIB:-}" ]; then YULTARVAS_LIB=$(cd "$YULTARVAS_LIB" && pwd); fi
 cd "$(dirname "$0")/.."
 if [ -z "${YULTARVAS_LIB:-}" ]; then
     if [ "$(uname -m)" != x86_64 ]; then
