@@ -4,8 +4,13 @@
 # It needs x86-64 Linux, for which the library is built, with cargo and a C compiler (CC, or cc). Elsewhere YULTARVAS_LIB names a folder with
 # a libexports.a for the machine, and nothing is built.
 set -euo pipefail
+if [ -n "${YULTARVAS_LIB:-}" ]; then YULTARVAS_LIB=$(cd "$YULTARVAS_LIB" && pwd); fi
 cd "$(dirname "$0")/.."
 if [ -z "${YULTARVAS_LIB:-}" ]; then
+    if [ "$(uname -m)" != x86_64 ]; then
+        echo "the library is built for x86-64, and this is $(uname -m): set YULTARVAS_LIB" >&2
+        exit 2
+    fi
     rt staticlib exports
     YULTARVAS_LIB=$PWD/target/staticlib
 fi
