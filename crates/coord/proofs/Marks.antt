@@ -6,10 +6,10 @@ use native.Mathlib.Omega.{arith}
 use lib.Dec.{ltb}
 use lib.IntN.{ℤ, subℕ}
 use Rattle.laws.specs.Whole.{sub-by}
-use Rattle.rank.specs.RankOrder.{rankBy, rank-is}
+use Rattle.rank.specs.Laws.RankOrder.{rankBy, rank-is}
 use Rattle.rank.specs.Answers.{markOf}
 use Rattle.search.specs.Record.{member}
-use Rattle.coord.specs.Slots.{unbiased}
+use Rattle.coord.specs.Inner.{unbiased}
 use Rattle.coord.proofs.Numbers.{member-is}
 
 -- the mark of a rank

@@ -7,7 +7,7 @@ use mir.Syntax.{w32}
 use mir.Val.{SFits}
 use Rattle.laws.specs.Whole.{sub-below, sub-above, sub-by, sub-up, sub-down}
 use Rattle.search.specs.Record.{member, slotK}
-use Rattle.coord.specs.Slots.{unbiased}
+use Rattle.coord.specs.Inner.{unbiased}
 
 -- ---- the member o + 4k, by the sign of k
 pub member-neg : (o n : ℕ) → o < 4 → member o (negsuc n) ≡ negsuc (4 * n + 3 - o)

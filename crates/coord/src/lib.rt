@@ -12,7 +12,7 @@ ghost use Rattle.rank.specs.Answers.{markOf};
 ghost use Rattle.float.specs.Calls.{rounded};
 ghost use Rattle.search.specs.Record.{member, coordFrom, coordOf, shrinks};
 ghost use Rattle.coord.specs.Rows.{coordIn, tableOf, regretsOf, distsOf, weightsOf, ranksOf, oddsOf, upsOf, rowsOf};
-ghost use Rattle.coord.specs.Slots.{unbiased, slotOf};
+ghost use Rattle.coord.specs.Inner.{unbiased, slotOf};
 use search::Coord;
 
 // How far the targets are drawn in, one after the other.

@@ -15,13 +15,13 @@ use Rattle.tetra.specs.Encode.{encodeOf}
 use Rattle.tetra.specs.Demand2.{accepts, round-trip}
 use Rattle.tetra.specs.Points.{P}
 use Rattle.float.specs.Calls.{quotientsOf}
-use Rattle.float.specs.Arrays.{quotients-length}
+use Rattle.float.specs.Laws.Arrays.{quotients-length}
 use Rattle.score.specs.Samples.{sampleNumber, scaleNumber}
 use Rattle.score.specs.Scale.{choiceOf, firstScale, secondScale}
 use Rattle.score.specs.declared.Choice.{Choice}
 use Rattle.score.specs.declared.Choice.the-variants.{Zero, Scale, Divide}
-use Rattle.score.specs.SampleLaws.{AllFit}
-use Rattle.score.specs.QuotientLaws.{Keeps, KeepsBoth, choice-keeps}
+use Rattle.score.specs.Laws.Sample.{AllFit}
+use Rattle.score.specs.Laws.Quotient.{Keeps, KeepsBoth, choice-keeps}
 use Rattle.search.specs.declared.Winner.{Winner}
 use Rattle.search.specs.Parity.{bothParities}
 use Rattle.search.specs.Block.{winnerFor, pointFrom}
@@ -31,7 +31,7 @@ use Rattle.encoder.specs.declared.Code.{Code}
 use Rattle.encoder.specs.Encode.{zeroCode, codeOf, codeFor, numberAt, encodeAtOver, encodeAtScale}
 use Rattle.encoder.specs.Encode.{higher, twoScales, scaledBack, codeAt, numberOf, encodeOver, encodeWith}
 use Rattle.encoder.specs.Numbers.{zero-says, at-accepted, is-accepted}
-use Rattle.demands.specs.Targets.{accepted-at, first-fits, second-fits, quotients-fit}
+use Rattle.demands.specs.Laws.{accepted-at, first-fits, second-fits, quotients-fit}
 
 -- ---- what is promised of a code
 pub record Coded (c : Code) : Type 0 where

@@ -14,14 +14,14 @@ use Rattle.tetra.specs.Encode.{encodeOf}
 use Rattle.float.specs.Calls.{quotientsOf}
 use Rattle.float.specs.Distance.{sqDist, margin}
 use Rattle.score.specs.Samples.{scaleNumber}
-use Rattle.score.specs.SampleLaws.{AllFit}
+use Rattle.score.specs.Laws.Sample.{AllFit}
 use Rattle.search.specs.Parity.{bothParities}
 use Rattle.search.specs.Block.{winnerFor, pointFrom}
 use Rattle.encoder.specs.declared.Code.{Code}
 use Rattle.encoder.specs.Encode.{codeOf, codeFor, numberAt, encodeAtScale}
 use Rattle.encoder.specs.Numbers.{zero-says, at-accepted}
 use Rattle.nearest.specs.Accepted.{nearest-accepted}
-use Rattle.demands.specs.Targets.{accepted-at}
+use Rattle.demands.specs.Laws.{accepted-at}
 
 pub record Returns (y : List ℤ) (c : Code) : Type 0 where
   pub number : c .number ≡ 0

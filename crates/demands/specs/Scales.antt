@@ -12,8 +12,8 @@ use Rattle.score.specs.Samples.{sampleNumber, scaleNumber}
 use Rattle.score.specs.Scale.{choiceOf, secondScale}
 use Rattle.score.specs.declared.Choice.{Choice}
 use Rattle.score.specs.declared.Choice.the-variants.{Zero, Scale}
-use Rattle.score.specs.SampleLaws.{AllFit}
-use Rattle.score.specs.QuotientLaws.{KeepsBoth, choice-keeps}
+use Rattle.score.specs.Laws.Sample.{AllFit}
+use Rattle.score.specs.Laws.Quotient.{KeepsBoth, choice-keeps}
 use Rattle.encoder.specs.Encode.{numberAt, encodeAtOver, higher, twoScales, codeAt, numberOf, encodeOver}
 use Rattle.encoder.specs.Numbers.{zero-says, at-accepted, is-accepted}
 

@@ -14,24 +14,24 @@ use Rattle.laws.specs.Tests.{upto, below2, and-left, and-right, split3, or-case
 use Rattle.laws.specs.Lists.{tab, filled, tab-length}
 use Rattle.rank.specs.Coord.{valOf}
 use Rattle.rank.specs.Vector.{ranksBelow, class, pack, unpack, inClass}
-use Rattle.rank.specs.VectorLaws.{unpack-at, unpack-length, pack-unpack}
+use Rattle.rank.specs.Laws.Vector.{unpack-at, unpack-length, pack-unpack}
 use Rattle.rank.specs.Section.{pointAt, bitsOf, ranksOf}
-use Rattle.rank.specs.SectionLaws.{point-bits, point-ranks, point-length}
+use Rattle.rank.specs.Laws.Section.{point-bits, point-ranks, point-length}
 use Rattle.rows.specs.Rows.{rows}
 use Rattle.rows.specs.Table.{rowRanks}
-use Rattle.rows.specs.Vectors.{more-below, below-up}
-use Rattle.rows.specs.Rule.{row-class, row-ranks, row-packed}
-use Rattle.rows.specs.Places.{number-class, is-row}
+use Rattle.rows.specs.Laws.Vectors.{more-below, below-up}
+use Rattle.rows.specs.Laws.Rule.{row-class, row-ranks, row-packed}
+use Rattle.rows.specs.Laws.Places.{number-class, is-row}
 use Rattle.trellis.specs.Tables.{prefixes, suffixes}
 use Rattle.trellis.specs.Trellis.{prefixOf, suffixOf}
-use Rattle.trellis.specs.Path.{row-at, prefix-lt, suffix-lt}
-use Rattle.tetra.specs.PointLaws.{point-at}
+use Rattle.trellis.specs.Laws.Path.{row-at, prefix-lt, suffix-lt}
+use Rattle.tetra.specs.Laws.Point.{point-at}
 use Rattle.search.specs.Record.{bitAt}
 use Rattle.search.specs.Tables.{tables, endByte, fallbackAt, fallbackBytes, fallbackKeys}
 use Rattle.search.specs.Entries.{rankAt, sectionAt}
 use Rattle.fallbacks.specs.Region.{InRegion, LeastOf, point}
-use Rattle.fallbacks.specs.Order.{grade, allFit, grade-order, after-both}
-use Rattle.fallbacks.specs.Lower.{valuesOf, values-fit, ofClass, lower, lower-bound}
+use Rattle.fallbacks.specs.Laws.Order.{grade, allFit, grade-order, after-both}
+use Rattle.fallbacks.specs.Laws.Lower.{valuesOf, values-fit, ofClass, lower, lower-bound}
 
 -- ---- a point by its offsets and its ranks
 offsets : ℕ → ℕ → List ℕ

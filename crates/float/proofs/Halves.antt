@@ -20,9 +20,9 @@ use mir.ValLaws.{toZ-pos, toZ-ofZ}
 use Rattle.laws.specs.Tests.{true-is}
 use Rattle.float.specs.Value.{U, magUnits, isMinus, posUnits, negUnits, zero64}
 use Rattle.float.specs.Calls.{halfUp, roundAway}
-use Rattle.float.specs.Exact.{has-value, Exactly, double-exactly, neg-exactly, neg-mag, mag-parts}
-use Rattle.float.specs.Compare.{is-lt, lt-zero, from-zero, not-lt-zero}
-use Rattle.float.specs.Rounding.{Ranged, Small}
+use Rattle.float.specs.Laws.Exact.{has-value, Exactly, double-exactly, neg-exactly, neg-mag, mag-parts}
+use Rattle.float.specs.Laws.Compare.{is-lt, lt-zero, from-zero, not-lt-zero}
+use Rattle.float.specs.Laws.Rounding.{Ranged, Small}
 
 -- ---- the whole part of a number that is not negative
 whole-part : (x : Float) → T (fits binary64 x) → T (finite x) → negUnits x ≡ 0 → magUnits x < 2 ^ 64 * U → toUnsigned 64 x ≡ magUnits x / U

@@ -6,7 +6,7 @@ use lib.ListN.{length, drop, getD, drop-of-length-le}
 use lib.Ieee.{Float, nan, binary64, add, div}
 use Rattle.laws.specs.Lists.{filled, drop-next}
 use Rattle.float.specs.Calls.{sumFrom, quotientsOf}
-use Rattle.float.specs.Arrays.{quotients-length, quotients-at}
+use Rattle.float.specs.Laws.Arrays.{quotients-length, quotients-at}
 
 -- one turn of the sum, and its end
 pub sum-next : (acc : Float) (a : List Float) (i : ℕ) → i < length a

@@ -7,9 +7,9 @@ use lib.Ieee.Scale.{finite}
 use Rattle.laws.specs.Tests.{true-is}
 use Rattle.float.specs.Value.{zero64}
 use Rattle.float.specs.Calls.{absOf}
-use Rattle.float.specs.Exact.{zero-fits, zero-mag, same-units}
-use Rattle.float.specs.Compare.{lt-zero, eq-zero, zero-eq, from-zero, not-lt-zero}
-use Rattle.float.specs.Near.{abs-exactly}
+use Rattle.float.specs.Laws.Exact.{zero-fits, zero-mag, same-units}
+use Rattle.float.specs.Laws.Compare.{lt-zero, eq-zero, zero-eq, from-zero, not-lt-zero}
+use Rattle.float.specs.Laws.Near.{abs-exactly}
 
 -- ---- x < infinity, and then -infinity < x
 pub finite-yes : (x : Float) → lt x (inf false) ≡ true → lt (inf true) x ≡ finite x

@@ -9,8 +9,8 @@ use lib.Ieee.{nan, inf, binary64, ofBits, lt}
 use Rattle.float.specs.Value.{magUnits, zero64}
 use Rattle.float.specs.Calls.{halfUp, roundAway, clamped, rounded}
 use Rattle.float.specs.Distance.{sqDist, floatDist}
-use Rattle.float.specs.Exact.{zero-fits}
-use Rattle.float.specs.Margin.{Tame, AllTame, margin-decides}
+use Rattle.float.specs.Laws.Exact.{zero-fits}
+use Rattle.float.specs.Laws.Margin.{Tame, AllTame, margin-decides}
 
 -- ---- the least double is one unit
 least-units : magUnits (ofBits binary64 1) ≡ 1

@@ -3,7 +3,7 @@ ghost use mathlib.Core.Path.{_≡_};
 ghost use Prim.Native.Nat.{_≤_};
 ghost use lib.Ieee.Scale.{finite};
 ghost use Rattle.float.specs.Calls.{absOf, clamped, halfUp, rounded, sumOf, quotientsOf};
-ghost use Rattle.float.specs.Rounding.{Small};
+ghost use Rattle.float.specs.Laws.Rounding.{Small};
 
 // The Rust's f64::abs: -0.0 gives +0.0, and a NaN a NaN.
 pub fn abs(x: f64) -> f64

@@ -12,7 +12,7 @@ use Rattle.search.specs.Tables.{tables}
 use Rattle.search.specs.Solve.{infinity}
 use Rattle.search.specs.Join.{Sides, midAt, lastAt, entAt, wayAt, keep, rowTo, joinTo}
 use Rattle.search.specs.Parity.{lower, boundBy, boundsTo}
-use Rattle.join.specs.Flat.{ValuesOf, ExactsOf}
+use Rattle.join.specs.Inner.{ValuesOf, ExactsOf}
 use Rattle.join.proofs.Ranges.{InRange, mid-lt, last-lt}
 
 -- the way through three entries

@@ -1,1 +1,2 @@
-pub mod Flat
+-- what the private functions say to each other
+pub mod Inner

@@ -10,7 +10,7 @@ ghost use Rattle.search.specs.Tables.{branchEntries, tables};
 ghost use Rattle.search.specs.Solve.{infinity};
 ghost use Rattle.search.specs.Join.{Sides, midAt, lastAt, entAt, rowTo, joinTo, join};
 ghost use Rattle.search.specs.Parity.{lower, boundsTo};
-ghost use Rattle.join.specs.Flat.{Values, Exacts, ValuesOf, ExactsOf};
+ghost use Rattle.join.specs.Inner.{Values, Exacts, ValuesOf, ExactsOf};
 use search::Bounds;
 use search::Entry;
 use search::Way;

@@ -5,7 +5,7 @@ use Prim.Native.Nat.{ℕ, suc, _+_, _*_, _-_, _^_, _<_, _≤_}
 use native.Mathlib.Omega.{arith}
 use Rattle.rank.specs.Vector.{sq}
 use Rattle.listing.specs.Listing.{cap, grow, under}
-use Rattle.listing.specs.Growth.{below-six, grow-more, grow-stop}
+use Rattle.listing.specs.Laws.Growth.{below-six, grow-more, grow-stop}
 
 -- no coordinate is open
 pub under-none : (left row spent : ℕ) → left ≡ 0 → under left row spent ≡ row ∷ []

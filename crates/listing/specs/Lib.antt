@@ -1,4 +1,5 @@
+-- definitions: what a reader has to believe
 pub mod Listing
 pub mod Lent
-pub mod Growth
+-- theorems
 pub mod Laws

@@ -15,10 +15,10 @@ use Rattle.laws.specs.Tests.{is-false}
 use Rattle.laws.specs.Lists.{tab, tab-at, tab-length}
 use Rattle.float.specs.Value.{U, magUnits, posUnits, negUnits, zero64}
 use Rattle.float.specs.Calls.{absOf, million64, quotientsOf}
-use Rattle.float.specs.Exact.{parts, zero-fits, zero-mag}
-use Rattle.float.specs.Compare.{lt-is, not-lt-is}
-use Rattle.float.specs.Near.{abs-exactly}
-use Rattle.float.specs.Arrays.{quotients-length, quotients-at}
+use Rattle.float.specs.Laws.Exact.{parts, zero-fits, zero-mag}
+use Rattle.float.specs.Laws.Compare.{lt-is, not-lt-is}
+use Rattle.float.specs.Laws.Near.{abs-exactly}
+use Rattle.float.specs.Laws.Arrays.{quotients-length, quotients-at}
 use Rattle.nearest.specs.Accepted.{quotient-finite}
 use Rattle.nearest.specs.Accepted as call
 

@@ -11,7 +11,7 @@ use lib.Dec.{T}
 use lib.ListN.{getD, length}
 use lib.Ieee.{Float, nan, lt}
 use Rattle.laws.specs.Lists.{tab-at}
-use Rattle.trellis.specs.TrioLaws.{trio-fits}
+use Rattle.trellis.specs.Laws.Trio.{trio-fits}
 use Rattle.tetra.specs.Lattice.{HasWord}
 use Rattle.tetra.specs.Encode.{encodeOf}
 use Rattle.tetra.specs.Demand2 as words
@@ -22,11 +22,11 @@ use Rattle.search.specs.Entries.{Rule}
 use Rattle.search.specs.Parity.{Targets, parity, nobody, costOf, choose, searchOver, search, bothParities}
 use Rattle.search.specs.Block.{ruleOf, coordinate, trioOf, targetsOf, pointFrom, winnerFor}
 use Rattle.nearest.specs.Demand3.{rule-ok, both-lt, even-lt}
-use Rattle.nearest.specs.Sections.{up8, up16, up24}
+use Rattle.nearest.specs.Laws.Sections.{up8, up16, up24}
 use Rattle.members.specs.Accepted.{Accepted}
-use Rattle.members.specs.Sizes.{Target}
-use Rattle.members.specs.Paths.{Through, found-through, first-found}
-use Rattle.members.specs.Point.{winner-word}
+use Rattle.members.specs.Laws.Sizes.{Target}
+use Rattle.members.specs.Laws.Paths.{Through, found-through, first-found}
+use Rattle.members.specs.Laws.Point.{winner-word}
 
 -- ---- the sections' targets
 module _ (t : List Float) (A : Accepted t) where

@@ -12,9 +12,9 @@ use lib.Ieee.Fits.{round-is, div-fits}
 use lib.Ieee.Scale.{finite}
 use Rattle.float.specs.Value.{zero64}
 use Rattle.float.specs.Calls.{absOf, million64, quotientsOf}
-use Rattle.float.specs.Compare.{zero-lt}
-use Rattle.float.specs.Arithmetic.{div-fraction}
-use Rattle.float.specs.Arrays.{quotients-length, quotients-at}
+use Rattle.float.specs.Laws.Compare.{zero-lt}
+use Rattle.float.specs.Laws.Arithmetic.{div-fraction}
+use Rattle.float.specs.Laws.Arrays.{quotients-length, quotients-at}
 use Rattle.float.specs.Distance.{sqDist, margin}
 use Rattle.tetra.specs.Lattice.{LatticePoint, HasWord}
 use Rattle.search.specs.Parity.{bothParities}

@@ -25,10 +25,10 @@ use Rattle.tetra.specs.Tetra.{natural}
 use Rattle.search.specs.Tables.{tables}
 use Rattle.search.specs.Parity.{bothParities}
 use Rattle.search.specs.Block.{ruleOf, winnerFor, pointFrom}
-use Rattle.nearest.specs.Statement.{RuleOk}
-use Rattle.nearest.specs.Link.{p-lt, leech, leech-parity, has-rows, lattice, lattice-parity}
-use Rattle.nearest.specs.Sections.{LeechTrio}
-use Rattle.nearest.specs.Natural.{is-answered, is-point}
+use Rattle.nearest.specs.Laws.Forms.{RuleOk}
+use Rattle.nearest.specs.Laws.Link.{p-lt, leech, leech-parity, has-rows, lattice, lattice-parity}
+use Rattle.nearest.specs.Laws.Sections.{LeechTrio}
+use Rattle.nearest.specs.Laws.Natural.{is-answered, is-point}
 
 -- ---- the statement
 -- a target: 24 numbers, each a double (`fits binary64`) and finite

@@ -2,36 +2,5 @@
 pub mod Demand3
 pub mod Accepted
 pub mod OnPoint
--- the form that the proof works with, and that it is what document 01 has
-pub mod Statement
-pub mod Packed
-pub mod Link
--- the proof: sums and signed numbers; one coordinate; the base of a pattern; doubles
-pub mod Sums
-pub mod Ints
-pub mod Coordinate
-pub mod Base
-pub mod Under
-pub mod Operations
--- the lattice by sections; the join, the entries, one parity, all parities
-pub mod Lattice
-pub mod Join
-pub mod Entries
-pub mod Pass
-pub mod Winner
-pub mod Parities
--- packed rows, candidates, the section search
-pub mod Keys
-pub mod Shape
-pub mod Rule
-pub mod Candidate
-pub mod Steps
-pub mod Pairs
-pub mod Bases
-pub mod Solve
--- all of it put together, in trio order, at the constant tables
-pub mod Reach
-pub mod Premises
-pub mod Sections
-pub mod TableFacts
-pub mod Natural
+-- their proof
+pub mod Laws

@@ -23,8 +23,8 @@ use Rattle.laws.specs.Whole.{posPart, negPart, gap}
 use Rattle.rank.specs.Coord.{parityOf}
 use Rattle.float.specs.Value.{U, one64}
 use Rattle.float.specs.Calls.{absOf, million64, quotientsOf}
-use Rattle.float.specs.Arrays.{quotients-length, quotients-at}
-use Rattle.float.specs.Exact.{IsWhole, ofInt-whole}
+use Rattle.float.specs.Laws.Arrays.{quotients-length, quotients-at}
+use Rattle.float.specs.Laws.Exact.{IsWhole, ofInt-whole}
 use Rattle.float.specs.Distance.{coordGap, sqDist, margin}
 use Rattle.tetra.specs.Lattice.{LatticePoint, HasWord}
 use Rattle.tetra.specs.Tetra.{pointOf}
@@ -32,7 +32,7 @@ use Rattle.tetra.specs.Demand2.{decodes, onto, coordinate-small}
 use Rattle.tetra.specs.Points.{at, all, point, P}
 use Rattle.search.specs.Parity.{bothParities}
 use Rattle.search.specs.Block.{winnerFor, pointFrom}
-use Rattle.nearest.specs.Ints.{apart-parts, less-or}
+use Rattle.nearest.specs.Laws.Ints.{apart-parts, less-or}
 use Rattle.nearest.specs.Demand3.{Target, Finds, nearest, nearest-full}
 use Rattle.nearest.specs.Accepted.{Accepted, nearest-accepted}
 

@@ -13,7 +13,7 @@ use Rattle.page.specs.declared.Parsed.{Parsed}
 use Rattle.page.specs.declared.PageRead.{PageRead}
 use Rattle.page.specs.Answer.{Reading, page, malformed, parsedOf, readOf, cellsOf}
 use Rattle.page.specs.Counts.{pageCounts}
-use Rattle.page.specs.CountLaws.{page-length}
+use Rattle.page.specs.Laws.Count.{page-length}
 use Rattle.page.specs.Reader.{readingOf}
 use Rattle.page.specs.PageRule.{only-pages, always-room}
 use Rattle.page.specs.Shown.{blockTexts, refusedText, printed, inArray}

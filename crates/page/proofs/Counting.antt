@@ -10,7 +10,7 @@ use lib.Signed.{ltZ, mag}
 use mir.Syntax.{w32}
 use mir.Val.{SFits}
 use Rattle.page.specs.Counts.{nearest, countOf}
-use Rattle.page.specs.CountLaws.{count-pos, count-neg}
+use Rattle.page.specs.Laws.Count.{count-pos, count-neg}
 
 -- a coordinate's magnitude times num
 pub product : (m num : ℕ) → m ≤ 10 → num ≤ 65535 → m * num ≤ 655350

@@ -8,7 +8,7 @@ use lib.ListN.{length, getD, drop, drop-of-length-le}
 use lib.Seq.{sets}
 use Rattle.laws.specs.Lists.{drop-next, sets-append}
 use Rattle.page.specs.Counts.{blockCounts, pageCounts}
-use Rattle.page.specs.CountLaws.{block-length}
+use Rattle.page.specs.Laws.Count.{block-length}
 
 -- what is left to store at block i: that block, and what is left at i + 1
 pub blocks-next : (num : ℕ) (words : List ℕ) (i : ℕ) → i < length words → (l : List ℤ)

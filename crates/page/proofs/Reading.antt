@@ -12,7 +12,7 @@ use lib.Seq.{take-all}
 use Rattle.laws.specs.Lists.{drop-next}
 use Rattle.page.specs.Text.{decimal}
 use Rattle.page.specs.Reader.{begins, decimalAt, digitAt, hexAt}
-use Rattle.page.specs.ReaderLaws.{LineRule, begins-only, decimal-only, hex-only, hex-other}
+use Rattle.page.specs.Laws.Reader.{LineRule, begins-only, decimal-only, hex-only, hex-other}
 use Rattle.page.specs.declared.line.Digit.the-variants.{Value, Other}
 use Rattle.page.specs.declared.line.Line.{Line}
 use Rattle.page.specs.declared.line.Line.the-variants.{Good, Bad}

@@ -1,10 +1,11 @@
+-- the page, what its numbers mean, what the calls answer and print: what a reader has to believe
 pub mod Text
-pub mod TextLaws
 pub mod Page
 pub mod Counts
-pub mod CountLaws
 pub mod Answer
-pub mod Reader
-pub mod ReaderLaws
-pub mod PageRule
 pub mod Shown
+-- the reader as a definition, and the page rule: it accepts just the pages
+pub mod Reader
+pub mod PageRule
+-- its proof
+pub mod Laws

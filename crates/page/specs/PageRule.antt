@@ -13,12 +13,12 @@ use lib.Seq.{drop-append-seam, take-all, length-take-le}
 use Rattle.page.specs.declared.line.Line.{Line}
 use Rattle.page.specs.declared.line.Line.the-variants.{Good, Bad}
 use Rattle.page.specs.Text.{bytes, decimal}
-use Rattle.page.specs.TextLaws.{decimal-fits}
+use Rattle.page.specs.Laws.Text.{decimal-fits}
 use Rattle.page.specs.Page.{Page, formatLine, numLine, countLine, wordLine, wordLines, pageText}
 use Rattle.page.specs.Counts.{pageCounts}
 use Rattle.page.specs.Answer.{Reading, page, malformed, readOf, cellsOf}
 use Rattle.page.specs.Reader.{onLine, formatAt, wordLineAt, withWord, wordsAt, countAt, numAt, readingOf}
-use Rattle.page.specs.ReaderLaws.{LineRule, format-rule, decimal-rule, word-rule, word-length}
+use Rattle.page.specs.Laws.Reader.{LineRule, format-rule, decimal-rule, word-rule, word-length}
 
 -- each word fits 48 bits
 abbrev pub Fit : List ℕ → Type 0

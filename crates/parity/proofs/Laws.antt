@@ -19,7 +19,7 @@ use Rattle.search.specs.Join.{Sides, entAt, noEntry, join, allExact}
 use Rattle.search.specs.Parity.{Targets, Seed, solved1, solved2, solved3, starts, lower, seeded, seedBy, seedTo, boundsTo, closed, closing, parity}
 use Rattle.join.proofs.Ranges.{InRange, in-join}
 use Rattle.parity.specs.declared.Head.{Head}
-use Rattle.parity.specs.Pass.{firstStart, midStarts, lastStart, headBy, headOf, Kept, Resolved, onceBy, againBy, seedsBy, closedBy, leftBy, bestOf, passOf}
+use Rattle.parity.specs.Inner.{firstStart, midStarts, lastStart, headBy, headOf, Kept, Resolved, onceBy, againBy, seedsBy, closedBy, leftBy, bestOf, passOf}
 
 -- ---- which resolved entries are looked at
 abbrev InHead : Head → Type 0

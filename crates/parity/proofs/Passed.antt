@@ -16,7 +16,7 @@ use Rattle.search.specs.Parity.{fixed, lower, boundsTo, closed, winnerOf}
 use Rattle.search.specs.Block.{ruleOf}
 use Rattle.resolve.specs.Flat.{Search, endWith, midWith}
 use Rattle.parity.specs.declared.Head.{Head}
-use Rattle.parity.specs.Pass.{headOf, Kept, Resolved, onceBy, againBy, seedsBy, closedBy, leftBy, bestOf, passOf}
+use Rattle.parity.specs.Inner.{headOf, Kept, Resolved, onceBy, againBy, seedsBy, closedBy, leftBy, bestOf, passOf}
 
 abbrev sidesOf : List Entry → List Entry → List Entry → Sides
 sidesOf e1 e2 e3 = record { e1 = e1; e2 = e2; e3 = e3 }

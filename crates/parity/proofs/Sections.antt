@@ -23,10 +23,10 @@ use Rattle.coord.specs.declared.Rows.{Rows}
 use Rattle.coord.specs.Rows.{tableOf, rowsOf}
 use Rattle.solve.specs.declared.Pair.{Pair}
 use Rattle.solve.specs.Flat.{solveIn, pairIn}
-use Rattle.solve.specs.FlatLaws.{solve-flat}
+use Rattle.solve.specs.Laws.{solve-flat}
 use Rattle.resolve.specs.Flat.{Search, endWith, midWith, startWith, midStartWith}
-use Rattle.resolve.specs.FlatLaws.{bytesOf, fallbacksOf, end-with, mid-with, bases, ends-flat, mids-flat}
-use Rattle.parity.specs.Pass.{firstStart, midStarts, lastStart, Kept, Resolved, passOf}
+use Rattle.resolve.specs.Laws.{bytesOf, fallbacksOf, end-with, mid-with, bases, ends-flat, mids-flat}
+use Rattle.parity.specs.Inner.{firstStart, midStarts, lastStart, Kept, Resolved, passOf}
 use Rattle.parity.proofs.Laws.{Agree, pass-eq, pass-is}
 
 -- ---- the setting

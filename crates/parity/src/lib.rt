@@ -14,7 +14,7 @@ ghost use Rattle.search.specs.Parity as def;
 ghost use Rattle.search.specs.Block.{ruleOf};
 ghost use Rattle.solve.specs.Flat.{solveIn, pairIn};
 ghost use Rattle.resolve.specs.Flat.{endWith, midWith, startWith, midStartWith};
-ghost use Rattle.parity.specs.Pass.{headOf, passOf, firstStart, midStarts, lastStart};
+ghost use Rattle.parity.specs.Inner.{headOf, passOf, firstStart, midStarts, lastStart};
 use search::Closed;
 use search::Entry;
 use search::Winner;

@@ -9,7 +9,7 @@ use lib.Dec.{ltb, eqb}
 use lib.IntN.{ℤ}
 use Rattle.laws.specs.Whole.{modZ}
 use Rattle.rank.specs.Coord.{rankOf, valOf}
-use Rattle.rank.specs.CoordLaws.{val-rank}
+use Rattle.rank.specs.Laws.Coord.{val-rank}
 use Rattle.rank.specs.Answers.{outOfRange, reach, rankedOf, numberOf, rankIn, lookupNumber, lookupRank}
 use Rattle.rank.specs.declared.Ranked.{Ranked}
 use Rattle.rank.specs.declared.Ranked.the-variants.{Rank, Nothing, Refused}

@@ -1,9 +1,7 @@
+-- definitions: what a reader has to believe
 pub mod Coord
-pub mod Vector
 pub mod Section
+pub mod Vector
 pub mod Answers
-pub mod RankOrder
-pub mod CoordLaws
-pub mod VectorLaws
-pub mod SectionLaws
-pub mod LookupLaws
+-- theorems
+pub mod Laws

@@ -22,8 +22,8 @@ use Rattle.search.specs.Join.{entAt, noEntry}
 use Rattle.search.specs.Parity.{fixed}
 use Rattle.solve.specs.Flat.{solveIn}
 use Rattle.resolve.specs.Flat.{Search, betterBy, midBy, endOver, midOver, fallbackIn, loweredBy, startOver}
-use Rattle.resolve.specs.Points.{pointsFrom}
-use Rattle.resolve.specs.FlatLaws.{better-by, mid-by, fallback-flat, start-over}
+use Rattle.resolve.specs.Inner.{pointsFrom}
+use Rattle.resolve.specs.Laws.{better-by, mid-by, fallback-flat, start-over}
 
 -- ---- as they start
 pub all-fallbacks : (ts : List Float) (kind p : ℕ) → kind < 2 → p < 2 → {bytes keys : List ℕ} {points : List ℤ} {r : List Entry}

@@ -1,3 +1,5 @@
+-- the entries over flat rows; that they are those of crate search
 pub mod Flat
-pub mod Points
-pub mod FlatLaws
+pub mod Laws
+-- what the private functions say to each other
+pub mod Inner

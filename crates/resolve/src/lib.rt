@@ -15,7 +15,7 @@ ghost use Rattle.search.specs.Join.{entAt};
 ghost use Rattle.search.specs.Parity.{fixed, closed};
 ghost use Rattle.solve.specs.Flat.{solveIn};
 ghost use Rattle.resolve.specs.Flat.{betterBy, midBy, endOver, endWith, midOver, midWith, fallbackIn, ofParity, loweredBy, startOver, startWith, baseEntry, midStartWith};
-ghost use Rattle.resolve.specs.Points.{pointsFrom};
+ghost use Rattle.resolve.specs.Inner.{pointsFrom};
 use search::Best;
 use search::Closed;
 use search::Entry;

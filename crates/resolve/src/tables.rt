@@ -2,7 +2,7 @@
 ghost use mathlib.Core.Path.{_≡_};
 ghost use Rattle.trellis.specs.Tables as trellis;
 ghost use Rattle.search.specs.Tables.{middleSets, fallbackBytes, fallbackKeys};
-ghost use Rattle.resolve.specs.Points.{pointsFrom};
+ghost use Rattle.resolve.specs.Inner.{pointsFrom};
 
 // Two bytes of the first section for each state, at 2 s8 + b1.
 const PREFIXES: [u8; 128] = [

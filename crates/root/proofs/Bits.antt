@@ -28,8 +28,8 @@ use lib.Ieee.Digits.{size-le, size-reaches}
 use lib.Ieee.Exact.{HasValue, odd-sign}
 use lib.Ieee.Fits.{kept-lt}
 use Rattle.float.specs.Value.{U, magUnits}
-use Rattle.float.specs.Exact.{Exactly, exactly, digits, mag-lt, bitsOf, bits-are}
-use Rattle.root.specs.Steps.{Above, Apart}
+use Rattle.float.specs.Laws.Exact.{Exactly, exactly, digits, mag-lt, bitsOf, bits-are}
+use Rattle.root.specs.Inner.{Above, Apart}
 
 -- ---- from bits to units
 -- the bits are k * 2 ^ 52 + q, where the number of units is q * 2 ^ k, and q has all 53 digits unless k is 0

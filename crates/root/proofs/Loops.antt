@@ -16,7 +16,7 @@ use native.Mathlib.Nat.{
 use native.Mathlib.Numerals.{add-one}
 use native.Mathlib.Omega.{arith}
 use lib.Pow.{pow-add, pow-mono}
-use Rattle.root.specs.Steps.{Even, IsRoot, Step}
+use Rattle.root.specs.Inner.{Even, IsRoot, Step}
 
 -- ---- an even exponent
 pub even-odd : (m k : ℕ) → m < 2 ^ 53 → k % 2 ≡ 1 → Even m k (m * 2) (k - 1)

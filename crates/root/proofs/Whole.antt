@@ -13,11 +13,11 @@ use lib.Ieee.Bits.{nanBits-is}
 use lib.Ieee.Scale.{finite}
 use Rattle.laws.specs.Tests.{true-is}
 use Rattle.float.specs.Value.{U, magUnits, zero64}
-use Rattle.float.specs.Exact.{Exactly, no-nan, no-digits, some-digits, zero-fits, zero-mag}
-use Rattle.float.specs.Compare.{is-lt, zero-lt, eq-zero, zero-eq}
+use Rattle.float.specs.Laws.Exact.{Exactly, no-nan, no-digits, some-digits, zero-fits, zero-mag}
+use Rattle.float.specs.Laws.Compare.{is-lt, zero-lt, eq-zero, zero-eq}
 use Rattle.root.specs.Root.{NearestRoot, nearer, rootOf, rooted, noRoot}
 use Rattle.root.specs.Nearest.{Floor, floor-lt, nearer-full, nearer-top, nearest-of, nearest-unique, root-nearest}
-use Rattle.root.specs.Steps.{Above, Apart, Even, Raised, IsRoot, Picked}
+use Rattle.root.specs.Inner.{Above, Apart, Even, Raised, IsRoot, Picked}
 use Rattle.root.proofs.Bits.{made}
 
 -- ---- the whole root, and the number that is picked

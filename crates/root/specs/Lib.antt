@@ -1,5 +1,6 @@
--- definitions: what a reader has to believe; then the theorems, and what the private steps do
+-- the root, by squares: what a reader has to believe; the theorem; worked examples
 pub mod Root
 pub mod Nearest
 pub mod Examples
-pub mod Steps
+-- what the private functions say to each other
+pub mod Inner

@@ -44,7 +44,7 @@ use lib.Ieee.Digits.{size-lt, size-le, size-reaches}
 use lib.Ieee.Scale.{finite}
 use Rattle.laws.specs.Order.{le-or-lt}
 use Rattle.float.specs.Value.{U, magUnits, isMinus}
-use Rattle.float.specs.Exact.{Exactly, Digits, digits, mag-lt, same-units, round-exactly, zero-fits, no-digits, some-digits}
+use Rattle.float.specs.Laws.Exact.{Exactly, Digits, digits, mag-lt, same-units, round-exactly, zero-fits, no-digits, some-digits}
 use Rattle.root.specs.Root.{NearestRoot, twiceOr, wholeRoot, nearer, rootUnits, rootOf, rooted}
 
 -- ---- no second double is the nearest

@@ -2,7 +2,7 @@
 ghost use mathlib.Core.Path.{_≡_};
 ghost use Prim.Native.Nat.{_*_, _^_, _≤_, _<_};
 ghost use Rattle.root.specs.Root.{NearestRoot, rooted};
-ghost use Rattle.root.specs.Steps.{Above, Apart, Even, Raised, IsRoot, Step, Picked};
+ghost use Rattle.root.specs.Inner.{Above, Apart, Even, Raised, IsRoot, Step, Picked};
 
 // The number is 0, or 7 with the root +0.0.
 pub struct Rooted {

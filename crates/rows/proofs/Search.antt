@@ -11,8 +11,8 @@ use Rattle.rank.specs.Vector.{class, unpack}
 use Rattle.rows.specs.Rows.{rows}
 use Rattle.rows.specs.Table.{rowRanks}
 use Rattle.rows.specs.Key.{key}
-use Rattle.rows.specs.Rule.{row-class}
-use Rattle.rows.specs.Order.{row-key}
+use Rattle.rows.specs.Laws.Rule.{row-class}
+use Rattle.rows.specs.Laws.Order.{row-key}
 
 -- a row read from the table as it was lent
 pub read : {t : List ℕ} (i : ℕ) → t ≡ rows → getD t i 0 ≡ getD rows i 0

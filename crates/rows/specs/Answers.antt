@@ -12,10 +12,10 @@ use lib.ListN.{length}
 use Rattle.rank.specs.Vector.{class, inClass, inMiddle}
 use Rattle.rows.specs.Table.{rowRanks, IsRow, seatAt, classIndexOf}
 use Rattle.rows.specs.Table.{middleRows, middleClass, middleRow, IsMiddleRow, middleSeat, mixedIndexOf, numberOf, valuesOf}
-use Rattle.rows.specs.Rule.{row-class, row-in}
-use Rattle.rows.specs.Places.{number-class, number-index, number-back, position-of-row, position-none, row-or-none, is-row}
-use Rattle.rows.specs.Middle.{Names, named, used-small, used-row, middle-lt, middle-row-class}
-use Rattle.rows.specs.Middle.{middle-row-in, middle-at, middle-or-none}
+use Rattle.rows.specs.Laws.Rule.{row-class, row-in}
+use Rattle.rows.specs.Laws.Places.{number-class, number-index, number-back, position-of-row, position-none, row-or-none, is-row}
+use Rattle.rows.specs.Laws.Middle.{Names, named, used-small, used-row, middle-lt, middle-row-class}
+use Rattle.rows.specs.Laws.Middle.{middle-row-in, middle-at, middle-or-none}
 use Rattle.rows.specs.declared.Seated.{Seated}
 use Rattle.rows.specs.declared.Seated.the-variants.{At, Nothing}
 

@@ -8,7 +8,7 @@ use lib.Dec.{T}
 use lib.ListN.{length}
 use Rattle.laws.specs.Order.{lexLt, pick3-out, pick3-lt, pick3-eq, Compared, less, same, more, trichotomy}
 use Rattle.rank.specs.Vector.{ranksBelow, cost, before}
-use Rattle.rank.specs.VectorLaws.{rank-first, rank-rest}
+use Rattle.rank.specs.Laws.Vector.{rank-first, rank-rest}
 
 -- a, and then the ranks, as hexadecimal digits
 abbrev pub digitsAfter : ℕ → List ℕ → ℕ

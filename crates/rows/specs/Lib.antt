@@ -1,10 +1,7 @@
+-- the table, what the lookups answer, and what that means
 pub mod Rows
 pub mod Table
-pub mod Vectors
 pub mod Key
-pub mod Rule
-pub mod Order
-pub mod Complete
-pub mod Places
-pub mod Middle
 pub mod Answers
+-- theorems
+pub mod Laws

@@ -12,7 +12,7 @@ use Rattle.float.specs.Calls.{absOf, sumFrom}
 use Rattle.score.specs.Samples.{some}
 use Rattle.score.specs.Score.{products, doublesOf}
 use Rattle.score.specs.Scale.{larger, largestFrom}
-use Rattle.score.specs.ScoreLaws.{doubles-length}
+use Rattle.score.specs.Laws.Score.{doubles-length}
 
 -- ---- one passes the test: the next one does, or not, or none is left
 module _ (f : Float → Bool) (xs : List Float) (i : ℕ) where

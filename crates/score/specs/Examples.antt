@@ -10,14 +10,14 @@ use lib.IntN.{pos}
 use lib.Ieee.{nan, inf, fin, binary64, ofBits, round, size, div, mul, add, sum, lt, le, eq, ofInt, fits}
 use Rattle.float.specs.Value.{zero64, one64, magUnits}
 use Rattle.float.specs.Calls.{absOf, million64, quotientsOf, sumFrom}
-use Rattle.float.specs.Exact.{some-digits}
+use Rattle.float.specs.Laws.Exact.{some-digits}
 use Rattle.root.specs.Root.{wholeRoot, rootUnits, rootOf, rooted}
 use Rattle.score.specs.declared.Choice.the-variants.{Zero, Scale, Divide}
 use Rattle.score.specs.Samples.{limit64, some, sampleNumber, scaleNumber}
 use Rattle.score.specs.Score.{products, doublesOf, tOf}
 use Rattle.score.specs.Scale.{alpha64, ratio64, leastNormal64, root24, largestFrom, unitNorm, lowerScale, choiceOf}
-use Rattle.score.specs.SampleLaws.{AllFit}
-use Rattle.score.specs.QuotientLaws.{KeepsBoth, choice-keeps, zero-choice}
+use Rattle.score.specs.Laws.Sample.{AllFit}
+use Rattle.score.specs.Laws.Quotient.{KeepsBoth, choice-keeps, zero-choice}
 
 -- ---- each constant is the double nearest to its decimal
 limit-nearest : limit64 ≡ round binary64 false (10 ^ 290) 1

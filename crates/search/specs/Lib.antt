@@ -1,3 +1,4 @@
+-- the search of encoder.rs, from one coordinate up to a block: what a reader has to believe
 pub mod Record
 pub mod Bound
 pub mod Base
@@ -7,5 +8,5 @@ pub mod Entries
 pub mod Join
 pub mod Parity
 pub mod Block
-pub mod TableLaws
-pub mod ParityLaws
+-- theorems
+pub mod Laws

@@ -1,3 +1,5 @@
+-- the search of one pattern over flat rows; that it is the definition of crate search
 pub mod Flat
-pub mod Ranges
-pub mod FlatLaws
+pub mod Laws
+-- what the private functions say to each other
+pub mod Inner

@@ -13,7 +13,7 @@ ghost use Rattle.search.specs.Bound as search;
 ghost use Rattle.search.specs.Base.{slotOf, keySet, baseBest};
 ghost use Rattle.search.specs.Solve.{keyMoved, otherOf, keptBase, unmet, foundOf};
 ghost use Rattle.solve.specs.Flat.{swapBytes, placesOf, spot, topIn, parIn, fixIn, baseIn, stepIn, turnIn, movesIn, startIn, layerIn, solveIn, steppedIn, pairIn};
-ghost use Rattle.solve.specs.Ranges.{Placed, Apart, Inner, Covered, Ready};
+ghost use Rattle.solve.specs.Inner.{Placed, Apart, Inner, Covered, Ready};
 use search::Best;
 use search::Closed;
 use search::Found;

@@ -12,11 +12,11 @@ use Rattle.word.specs.declared.Fields.{Fields}
 use Rattle.rank.specs.Coord.{valOf}
 use Rattle.rank.specs.Section.{pointAt}
 use Rattle.rows.specs.Table.{rowRanks, middleRow}
-use Rattle.rows.specs.Rule.{row-length}
-use Rattle.rows.specs.Middle.{middle-row-class}
+use Rattle.rows.specs.Laws.Rule.{row-length}
+use Rattle.rows.specs.Laws.Middle.{middle-row-class}
 use Rattle.trellis.specs.Trellis.{prefixOf, middleOf, nextOf, suffixOf, branchOf}
-use Rattle.trellis.specs.Path.{prefix-lt, middle-lt}
-use Rattle.trellis.specs.Back.{path-word}
+use Rattle.trellis.specs.Laws.Path.{prefix-lt, middle-lt}
+use Rattle.trellis.specs.Laws.Back.{path-word}
 use Rattle.trellis.specs.declared.Edge.{Edge}
 use Rattle.tetra.specs.Tetra.{codewordAt, thirdClass, ranksAt, trioPoint}
 

@@ -14,21 +14,21 @@ use Rattle.rank.specs.Coord.{parityOf, rankOf}
 use Rattle.rank.specs.Vector.{class, inMiddle}
 use Rattle.rank.specs.Section.{uniform, bitsOf, ranksOf}
 use Rattle.rank.specs.Answers.{markOf, marksOf}
-use Rattle.rank.specs.LookupLaws.{marks-are, marks-near}
+use Rattle.rank.specs.Laws.Lookup.{marks-are, marks-near}
 use Rattle.rows.specs.Table.{classIndexOf, middleSeat, mixedIndexOf, middleRow}
-use Rattle.rows.specs.Vectors.{class-ranks}
-use Rattle.rows.specs.Rule.{row-in, row-class}
-use Rattle.rows.specs.Places.{number-class}
-use Rattle.rows.specs.Middle.{middle-row-in, middle-lt, middle-row-class}
+use Rattle.rows.specs.Laws.Vectors.{class-ranks}
+use Rattle.rows.specs.Laws.Rule.{row-in, row-class}
+use Rattle.rows.specs.Laws.Places.{number-class}
+use Rattle.rows.specs.Laws.Middle.{middle-row-in, middle-lt, middle-row-class}
 use Rattle.rows.specs.Answers.{class-index-out, class-index-back, mixed-index-back}
 use Rattle.rows.specs.declared.Seated.{Seated}
 use Rattle.rows.specs.declared.Seated.the-variants.{At, Nothing}
 use Rattle.trellis.specs.Trellis.{labelOf}
 use Rattle.tetra.specs.Lattice.{trio, Codeword, section, sectionRanks, inOwnClass, HasWord}
 use Rattle.tetra.specs.Encode.{refused, parityAt, labelFor, fieldsBy, fieldsFor, encodeOf}
-use Rattle.tetra.specs.Orders.{at-uniform, uniform-at, parity-trio}
-use Rattle.tetra.specs.WordLaws.{section-size, section-length, has-encodable, label-code, sum-classes}
-use Rattle.tetra.specs.WordLaws.{row0, row1, row2, label-lt, third-owes, fields-narrow}
+use Rattle.tetra.specs.Laws.Orders.{at-uniform, uniform-at, parity-trio}
+use Rattle.tetra.specs.Laws.Word.{section-size, section-length, has-encodable, label-code, sum-classes}
+use Rattle.tetra.specs.Laws.Word.{row0, row1, row2, label-lt, third-owes, fields-narrow}
 use Rattle.tetra.specs.Demand2.{encode-in, refuses}
 use Rattle.tetra.specs.declared.Encoded.{Encoded}
 

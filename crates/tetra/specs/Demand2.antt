@@ -17,13 +17,13 @@ use Rattle.word.specs.Laws.{split-narrow, split-join, no-gain-split, no-gain-lt
 use Rattle.word.specs.declared.Fields.{Fields}
 use Rattle.rank.specs.Section.{bitsOf}
 use Rattle.trellis.specs.Trio.{places}
-use Rattle.trellis.specs.TrioLaws.{trio-fits}
+use Rattle.trellis.specs.Laws.Trio.{trio-fits}
 use Rattle.tetra.specs.Lattice.{trio, HasWord}
 use Rattle.tetra.specs.Tetra.{codewordAt, trioPoint, natural, trioPointOf, pointOf, patternsOf}
 use Rattle.tetra.specs.Encode.{noWord, refused, encodable, fieldsFor, encodeOf}
-use Rattle.tetra.specs.Orders.{natural-length, natural-at, natural-trio}
-use Rattle.tetra.specs.PointLaws.{bits-are, point-small}
-use Rattle.tetra.specs.WordLaws.{trio-of, decoded, has-encodable, encodable-has, fields-narrow, fields-point, fields-back}
+use Rattle.tetra.specs.Laws.Orders.{natural-length, natural-at, natural-trio}
+use Rattle.tetra.specs.Laws.Point.{bits-are, point-small}
+use Rattle.tetra.specs.Laws.Word.{trio-of, decoded, has-encodable, encodable-has, fields-narrow, fields-point, fields-back}
 use Rattle.tetra.specs.declared.Encoded.{Encoded}
 
 -- ---- every word decodes to 24 coordinates, of magnitude 10 at most, that are a lattice point and have a word

@@ -1,8 +1,9 @@
+-- the lattice, the point of a word, the answer of `encode`: what a reader has to believe
 pub mod Lattice
 pub mod Tetra
 pub mod Encode
-pub mod Orders
-pub mod PointLaws
-pub mod WordLaws
+-- demand 2; the points to hit exactly
 pub mod Demand2
 pub mod Points
+-- their proof
+pub mod Laws

@@ -14,14 +14,14 @@ use Rattle.rank.specs.Section.{pointAt, uniform, bitsOf, kSum}
 use Rattle.rows.specs.Rows.{rows}
 use Rattle.rows.specs.Table.{rowRanks, middleClass, middleRow}
 use Rattle.trellis.specs.Code.{wordOf, columns}
-use Rattle.trellis.specs.CodeLaws.{backColumns, back-at, label-low}
+use Rattle.trellis.specs.Laws.Code.{backColumns, back-at, label-low}
 use Rattle.trellis.specs.Trio.{order, places}
 use Rattle.trellis.specs.Trellis.{labelOf}
-use Rattle.trellis.specs.Back.{label-none}
+use Rattle.trellis.specs.Laws.Back.{label-none}
 use Rattle.tetra.specs.Lattice.{trio}
 use Rattle.tetra.specs.Tetra.{codewordAt, thirdClass, ranksAt, trioPoint, natural, trioPointOf, pointOf}
 use Rattle.tetra.specs.Encode.{refusedWith, refused, oneParity, inCode, inBounds, rightSum, encodable, fieldsFor, encodeOf}
-use Rattle.tetra.specs.WordLaws.{code-label}
+use Rattle.tetra.specs.Laws.Word.{code-label}
 
 -- ---- the tests, computed: the way back by columns tells a codeword with no walk over the 4,096
 byColumns : ℕ → Bool

@@ -13,9 +13,9 @@ use Rattle.laws.specs.Lists.{lookUp, look-at, look-out, look-none}
 use Rattle.trellis.specs.Code.{wordOf, columns}
 use Rattle.trellis.specs.Tables.{prefixes, middles}
 use Rattle.trellis.specs.Trellis.{middleOf, branchOf, suffixOf, openingOf, passageOf, closingOf, labelOf}
-use Rattle.trellis.specs.CodeLaws.{backColumns, back-at, back-lt}
-use Rattle.trellis.specs.Path.{prefixes-length}
-use Rattle.trellis.specs.Back.{prefixes-distinct, passage-by, passage-iff, passage-none, closing-by, closing-iff, closing-none, label-iff, label-none}
+use Rattle.trellis.specs.Laws.Code.{backColumns, back-at, back-lt}
+use Rattle.trellis.specs.Laws.Path.{prefixes-length}
+use Rattle.trellis.specs.Laws.Back.{prefixes-distinct, passage-by, passage-iff, passage-none, closing-by, closing-iff, closing-none, label-iff, label-none}
 use Rattle.trellis.specs.declared.Edge.{Edge}
 use Rattle.trellis.specs.declared.Opening.{Opening}
 use Rattle.trellis.specs.declared.Opening.the-variants.{From, NoState}

@@ -1,14 +1,8 @@
+-- the code, trio order, the cuts and the trellis: what a reader has to believe; the tables, which the theorems say are right
 pub mod Code
 pub mod Trio
-pub mod Tables
-pub mod Trellis
 pub mod Cuts
-pub mod Linear
-pub mod Words
-pub mod CodeLaws
-pub mod Path
-pub mod States
-pub mod Back
-pub mod StateBytes
-pub mod TrioLaws
-pub mod Numbering
+pub mod Trellis
+pub mod Tables
+-- theorems
+pub mod Laws

@@ -13,7 +13,7 @@ use Rattle.float.specs.Calls.{absOf}
 use Rattle.search.specs.declared.Coord.{Coord}
 use Rattle.search.specs.Record.{slotK, coordFrom}
 use Rattle.coord.specs.declared.Slot.{Slot}
-use Rattle.coord.specs.Slots.{unbiased, slotOf}
+use Rattle.coord.specs.Inner.{unbiased, slotOf}
 use Rattle.coord.proofs.Numbers.{slot-0, slot-1, slot-up}
 use Rattle.coord.proofs.record_of.Statement.{statement}
 use Rattle.coord.proofs.record_of.Tie as tie

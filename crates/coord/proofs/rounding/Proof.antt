@@ -6,7 +6,7 @@ use lib.Dec.{T}
 use lib.IntN.{ℤ, natAbs}
 use mir.Syntax.{w32}
 use mir.ValLaws.{toZ-ofZ}
-use Rattle.float.specs.Rounding.{rounded-le}
+use Rattle.float.specs.Laws.Rounding.{rounded-le}
 use Rattle.coord.proofs.rounding.Statement.{statement}
 use Rattle.coord.proofs.rounding.Tie as tie
 

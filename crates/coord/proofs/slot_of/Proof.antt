@@ -10,7 +10,7 @@ use Rattle.rank.specs.Vector.{sq}
 use Rattle.rank.specs.Answers.{markOf}
 use Rattle.search.specs.Record.{member, sqTo}
 use Rattle.coord.specs.declared.Slot.{Slot}
-use Rattle.coord.specs.Slots.{slotOf}
+use Rattle.coord.specs.Inner.{slotOf}
 use Rattle.coord.proofs.slot_of.Statement.{statement}
 use Rattle.coord.proofs.slot_of.Tie as tie
 

@@ -10,7 +10,7 @@ use mir.Facts.{toZ-ofZ}
 use lib.IntN.{ℤ, pos}
 use lib.ListN.{length, getD, length-set}
 use Rattle.laws.specs.Lists.{filled-more, filled}
-use Rattle.trellis.specs.TrioLaws.{trio-fits}
+use Rattle.trellis.specs.Laws.Trio.{trio-fits}
 use Rattle.search.specs.declared.Winner.{Winner}
 use Rattle.search.specs.Block.{place, pointAt}
 use Rattle.encoder.proofs.point_of.Statement.{statement}

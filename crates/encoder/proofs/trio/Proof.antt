@@ -8,7 +8,7 @@ use borrow.Author.Needs.{needs}
 use lib.ListN.{length, getD, length-set}
 use lib.Ieee.{Float, nan}
 use Rattle.laws.specs.Lists.{filled-more, filled}
-use Rattle.trellis.specs.TrioLaws.{trio-fits}
+use Rattle.trellis.specs.Laws.Trio.{trio-fits}
 use Rattle.search.specs.Block.{coordinate}
 use Rattle.encoder.proofs.trio.Statement.{statement}
 use Rattle.encoder.proofs.trio.Tie as tie

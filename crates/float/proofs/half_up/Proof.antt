@@ -5,7 +5,7 @@ use native.Mathlib.Omega.{arith}
 use lib.Dec.{T}
 use lib.Ieee.{binary64, fits, add, toUnsigned}
 use Rattle.float.specs.Calls.{halfUp}
-use Rattle.float.specs.Rounding.{halfUp-le}
+use Rattle.float.specs.Laws.Rounding.{halfUp-le}
 use Rattle.float.proofs.Halves.{asks-low, asks-high, cut-lt, cut-rounds}
 use Rattle.float.proofs.half_up.Statement.{statement}
 use Rattle.float.proofs.half_up.Tie as tie

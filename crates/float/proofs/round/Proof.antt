@@ -6,7 +6,7 @@ use lib.IntN.{pos, negℤ}
 use lib.Ieee.{Float, binary64, fits, ofBits}
 use Prim.Native.Nat.{ℕ}
 use Rattle.float.specs.Calls.{roundAway, rounded}
-use Rattle.float.specs.Rounding.{Ranged, clamped-fits, clamped-range}
+use Rattle.float.specs.Laws.Rounding.{Ranged, clamped-fits, clamped-range}
 use Rattle.float.proofs.Halves.{
   small-negative,
   away-negative,

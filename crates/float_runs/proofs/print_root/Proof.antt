@@ -4,7 +4,7 @@ use mathlib.Core.Bool.{not}
 use borrow.Author.Needs.{needs}
 use lib.Dec.{T}
 use lib.Ieee.{isNan}
-use Rattle.float.specs.Exact.{no-nan}
+use Rattle.float.specs.Laws.Exact.{no-nan}
 use Rattle.root.specs.declared.Rooted.{Rooted}
 use Rattle.root.specs.Root.{rooted}
 use Rattle.root.specs.Nearest.{rooted-finite}

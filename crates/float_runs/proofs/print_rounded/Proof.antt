@@ -4,7 +4,7 @@ use Prim.Native.Nat.{_≤_}
 use borrow.Author.Needs.{needs}
 use lib.Dec.{T}
 use lib.IntN.{ℤ, natAbs}
-use Rattle.float.specs.Rounding.{rounded-le}
+use Rattle.float.specs.Laws.Rounding.{rounded-le}
 use Rattle.float_runs.proofs.Signed.{back-le}
 use Rattle.float_runs.proofs.print_rounded.Statement.{statement}
 use Rattle.float_runs.proofs.print_rounded.Tie as tie

@@ -6,7 +6,7 @@ use native.Mathlib.Omega.{arith}
 use borrow.Author.Needs.{needs}
 use Rattle.search.specs.Tables.{tables}
 use Rattle.search.specs.Join.{Sides, joinTo}
-use Rattle.join.specs.Flat.{ValuesOf}
+use Rattle.join.specs.Inner.{ValuesOf}
 use Rattle.join.proofs.Paths.{join-more}
 use Rattle.join.proofs.best_way.Statement.{statement}
 use Rattle.join.proofs.best_way.Tie as tie

@@ -7,7 +7,7 @@ use borrow.Author.Needs.{needs}
 use Rattle.search.specs.Tables.{tables}
 use Rattle.search.specs.Join.{Sides}
 use Rattle.search.specs.Parity.{boundsTo}
-use Rattle.join.specs.Flat.{ValuesOf, ExactsOf}
+use Rattle.join.specs.Inner.{ValuesOf, ExactsOf}
 use Rattle.join.proofs.Paths.{wayBy, way-at, boundsBy, bounds-none, bounds-more}
 use Rattle.join.proofs.bounds_over.Statement.{statement}
 use Rattle.join.proofs.bounds_over.Tie as tie

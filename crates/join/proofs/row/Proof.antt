@@ -8,7 +8,7 @@ use borrow.Author.Needs.{needs}
 use Rattle.search.specs.declared.Way.{Way}
 use Rattle.search.specs.Tables.{tables}
 use Rattle.search.specs.Join.{Sides, keep, rowTo}
-use Rattle.join.specs.Flat.{ValuesOf}
+use Rattle.join.specs.Inner.{ValuesOf}
 use Rattle.join.proofs.Paths.{wayBy, kept-new, kept-old, row-more}
 use Rattle.join.proofs.row.Statement.{statement}
 use Rattle.join.proofs.row.Tie as tie

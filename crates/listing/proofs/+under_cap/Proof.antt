@@ -11,7 +11,7 @@ use lib.ListN.{length, length-append, length-set}
 use lib.Seq.{sets}
 use Rattle.laws.specs.Lists.{sets-append}
 use Rattle.listing.specs.Listing.{under}
-use Rattle.listing.specs.Growth.{below-six}
+use Rattle.listing.specs.Laws.Growth.{below-six}
 use Rattle.listing.proofs.Rest.{under-none, rest-of, rest-all, rest-more, rest-none}
 use Rattle.listing.proofs.under_cap.Reads as reads
 use Rattle.listing.proofs.under_cap.Kinds as kinds

@@ -9,7 +9,7 @@ use lib.ListN.{length, drop}
 use lib.Seq.{sets, sets-eq}
 use Rattle.listing.specs.Listing.{listing, under}
 use Rattle.listing.specs.Lent.{cells}
-use Rattle.listing.specs.Laws.{count}
+use Rattle.listing.specs.Laws.Listed.{count}
 use Rattle.listing.specs.declared.Listed.{Listed}
 use Rattle.listing.proofs.list.Statement.{statement}
 use Rattle.listing.proofs.list.Tie as tie

@@ -9,7 +9,7 @@ use Rattle.page.specs.declared.line.Line.the-variants.{Good}
 use Rattle.page.specs.Text.{bytes}
 use Rattle.page.specs.Answer.{parsedOf}
 use Rattle.page.specs.Reader.{formatAt, decimalLineAt, numAt, countAt, wordsAt, readingOf}
-use Rattle.page.specs.ReaderLaws.{format-rule, decimal-rule}
+use Rattle.page.specs.Laws.Reader.{format-rule, decimal-rule}
 use Rattle.page.proofs.Reading.{tail, line-fits}
 use Rattle.page.proofs.parse.Statement.{statement}
 use Rattle.page.proofs.parse.Tie as tie

@@ -11,7 +11,7 @@ use Rattle.page.specs.declared.line.Line.the-variants.{Good}
 use Rattle.page.specs.Page.{wordLine}
 use Rattle.page.specs.Answer.{parsedOf}
 use Rattle.page.specs.Reader.{wordLineAt}
-use Rattle.page.specs.ReaderLaws.{word-rule}
+use Rattle.page.specs.Laws.Reader.{word-rule}
 use Rattle.page.proofs.Reading.{tail, line-fits}
 use Rattle.page.proofs.Words.{Kept, kept-bad, kept-long, kept-end, kept-next}
 use Rattle.page.proofs.words_of.Statement.{statement}

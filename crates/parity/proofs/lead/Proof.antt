@@ -1,7 +1,7 @@
 -- `parity::lead` meets its contract: the path is that of the join. Assumes nothing.
 use borrow.Author.Needs.{needs}
 use mathlib.Core.Path.{ap}
-use Rattle.parity.specs.Pass.{headBy, headOf}
+use Rattle.parity.specs.Inner.{headBy, headOf}
 use Rattle.parity.proofs.lead.Statement.{statement}
 use Rattle.parity.proofs.lead.Tie as tie
 

@@ -7,7 +7,7 @@ use Rattle.search.specs.Parity.{solved3}
 use Rattle.search.specs.Block.{ruleOf}
 use Rattle.solve.specs.Flat.{solveIn}
 use Rattle.resolve.specs.Flat.{endWith}
-use Rattle.parity.specs.Pass.{lastStart}
+use Rattle.parity.specs.Inner.{lastStart}
 use Rattle.parity.proofs.Sections.{with-middle}
 use Rattle.parity.proofs.middle.Statement.{statement}
 use Rattle.parity.proofs.middle.Tie as tie

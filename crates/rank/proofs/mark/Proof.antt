@@ -12,7 +12,7 @@ use mir.Facts.{toZ-ofZ}
 use Rattle.laws.specs.Whole.{modZ, mod4-lt}
 use Rattle.rank.specs.Coord.{rankOf}
 use Rattle.rank.specs.Answers.{reach, noRank, rankedOf, markOf}
-use Rattle.rank.specs.LookupLaws.{mark-lt}
+use Rattle.rank.specs.Laws.Lookup.{mark-lt}
 use Rattle.rank.specs.declared.Ranked.{Ranked}
 use Rattle.rank.specs.declared.Ranked.the-variants.{Rank, Nothing, Refused}
 use Rattle.rank.proofs.mark.Statement.{statement}

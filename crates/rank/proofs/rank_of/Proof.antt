@@ -9,7 +9,7 @@ use mir.Val.{SFits, toZ, ofZ}
 use mir.Facts.{toZ-ofZ}
 use Rattle.rank.specs.Coord.{valOf}
 use Rattle.rank.specs.Answers.{reach}
-use Rattle.rank.specs.LookupLaws.{ranked-found}
+use Rattle.rank.specs.Laws.Lookup.{ranked-found}
 use Rattle.rank.proofs.Lookup.{ranked-refused, ranked-none, promised}
 use Rattle.rank.proofs.rank_of.Statement.{statement}
 use Rattle.rank.proofs.rank_of.Tie as tie

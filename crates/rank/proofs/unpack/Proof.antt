@@ -8,7 +8,7 @@ use lib.ListN.{length, getD, length-set}
 use lib.Seq.{ext-getD}
 use Rattle.laws.specs.Lists.{filled-more}
 use Rattle.rank.specs.Vector as vector
-use Rattle.rank.specs.VectorLaws.{unpack-at}
+use Rattle.rank.specs.Laws.Vector.{unpack-at}
 use Rattle.rank.proofs.unpack.Statement.{statement}
 use Rattle.rank.proofs.unpack.Tie as tie
 

@@ -4,7 +4,7 @@ use native.Mathlib.Omega.{arith}
 use borrow.Author.Needs.{needs}
 use lib.Dec.{T}
 use lib.Ieee.{binary64, fits}
-use Rattle.float.specs.Exact.{no-nan}
+use Rattle.float.specs.Laws.Exact.{no-nan}
 use Rattle.root.proofs.Bits.{apart-low, apart-high}
 use Rattle.root.proofs.taken_apart.Statement.{statement}
 use Rattle.root.proofs.taken_apart.Tie as tie

@@ -5,8 +5,8 @@ use borrow.Author.Needs.{needs}
 use Rattle.laws.specs.Tests.{true-is}
 use Rattle.rank.specs.Vector.{ranksBelow}
 use Rattle.rows.specs.Table.{findOf, seatAt, classIndexOf}
-use Rattle.rows.specs.Vectors.{below-up}
-use Rattle.rows.specs.Places.{position-small, position-big}
+use Rattle.rows.specs.Laws.Vectors.{below-up}
+use Rattle.rows.specs.Laws.Places.{position-small, position-big}
 use Rattle.rows.specs.Answers.{seat-none}
 use Rattle.rows.proofs.class_index.Statement.{statement}
 use Rattle.rows.proofs.class_index.Tie as tie

@@ -4,7 +4,7 @@ use Prim.Native.Nat.{ℕ}
 use borrow.Author.Needs.{needs}
 use lib.ListN.{getD}
 use Rattle.rows.specs.Rows.{rows}
-use Rattle.rows.specs.Places.{find-at, find-none}
+use Rattle.rows.specs.Laws.Places.{find-at, find-none}
 use Rattle.rows.proofs.Search.{read}
 use Rattle.rows.proofs.find.Statement.{statement}
 use Rattle.rows.proofs.find.Tie as tie

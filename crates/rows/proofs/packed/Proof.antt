@@ -6,7 +6,7 @@ use borrow.Author.Needs.{needs}
 use lib.ListN.{length, getD, drop, drop-of-length-le}
 use Rattle.laws.specs.Lists.{drop-next}
 use Rattle.rank.specs.Vector.{pack}
-use Rattle.rows.specs.Vectors.{below-at}
+use Rattle.rows.specs.Laws.Vectors.{below-at}
 use Rattle.rows.proofs.Nibbles.{digit-more, digit-or}
 use Rattle.rows.proofs.packed.Statement.{statement}
 use Rattle.rows.proofs.packed.Tie as tie

@@ -6,7 +6,7 @@ use native.Mathlib.Omega.{arith}
 use borrow.Author.Needs.{needs}
 use lib.ListN.{getD, List·getD-eq-default}
 use Rattle.rows.specs.Rows.{rows}
-use Rattle.rows.specs.Rule.{count}
+use Rattle.rows.specs.Laws.Rule.{count}
 use Rattle.rows.proofs.row.Statement.{statement}
 use Rattle.rows.proofs.row.Tie as tie
 

@@ -2,7 +2,7 @@
 use mathlib.Core.Path.{sym, ap}
 use lib.Ieee.{Float, binary64, ofBits, mul, div}
 use Rattle.score.specs.Scale.{alpha64}
-use Rattle.score.specs.ScaleLaws.{root24-is}
+use Rattle.score.specs.Laws.Scale.{root24-is}
 use Rattle.score.proofs.scale_with.Statement.{statement}
 use Rattle.score.proofs.scale_with.Tie as tie
 

@@ -11,8 +11,8 @@ use Rattle.search.specs.declared.Now.{Now}
 use Rattle.search.specs.Solve.{otherOf}
 use Rattle.solve.specs.declared.Start.{Start}
 use Rattle.solve.specs.Flat.{topIn, fixIn, baseIn, startIn}
-use Rattle.solve.specs.FlatLaws.{other-lt}
-use Rattle.solve.specs.Ranges.{Apart, Covered}
+use Rattle.solve.specs.Laws.{other-lt}
+use Rattle.solve.specs.Inner.{Apart, Covered}
 use Rattle.solve.proofs.Sums.{two}
 use borrow.Author.Needs.{needs}
 use Rattle.solve.proofs.begin.Statement.{statement}

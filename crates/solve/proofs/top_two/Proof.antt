@@ -9,7 +9,7 @@ use lib.Ieee.{Float, lt, nan}
 use Rattle.search.specs.declared.Top.{Top}
 use Rattle.solve.specs.Flat.{topIn, regretAt}
 use Rattle.laws.specs.Tests.{cond-ap}
-use Rattle.solve.specs.FlatLaws.{apart}
+use Rattle.solve.specs.Laws.{apart}
 use borrow.Author.Needs.{needs}
 use native.Mathlib.Omega.{arith}
 use Rattle.solve.proofs.top_two.Statement.{statement}

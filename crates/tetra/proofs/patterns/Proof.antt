@@ -9,7 +9,7 @@ use Rattle.word.specs.Word.{Narrow, fieldsOf}
 use Rattle.word.specs.Laws.{split-narrow}
 use Rattle.word.specs.declared.Fields.{Fields}
 use Rattle.trellis.specs.Code.{wordOf, columns, label, inputOf}
-use Rattle.trellis.specs.CodeLaws.{word-lt}
+use Rattle.trellis.specs.Laws.Code.{word-lt}
 use Rattle.tetra.specs.declared.Bytes.{Bytes}
 use Rattle.tetra.specs.Tetra.{codewordAt, patternsOf}
 use Rattle.tetra.proofs.patterns.Statement.{statement}

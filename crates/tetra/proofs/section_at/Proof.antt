@@ -2,7 +2,7 @@
 use borrow.Author.Needs.{needs}
 use Rattle.rank.specs.Vector.{unpack}
 use Rattle.rows.specs.Table.{rowRanks}
-use Rattle.tetra.specs.PointLaws.{row-small}
+use Rattle.tetra.specs.Laws.Point.{row-small}
 use Rattle.tetra.proofs.section_at.Statement.{statement}
 use Rattle.tetra.proofs.section_at.Tie as tie
 

@@ -14,9 +14,9 @@ use lib.Seq.{ext-getD}
 use Rattle.laws.specs.Lists.{filled-more}
 use Rattle.rank.specs.Coord.{valOf}
 use Rattle.rank.specs.Section.{pointAt}
-use Rattle.rank.specs.SectionLaws.{point-length}
-use Rattle.rows.specs.Vectors.{below-at}
-use Rattle.tetra.specs.PointLaws.{point-at}
+use Rattle.rank.specs.Laws.Section.{point-length}
+use Rattle.rows.specs.Laws.Vectors.{below-at}
+use Rattle.tetra.specs.Laws.Point.{point-at}
 use Rattle.tetra.proofs.section_of.Statement.{statement}
 use Rattle.tetra.proofs.section_of.Tie as tie
 

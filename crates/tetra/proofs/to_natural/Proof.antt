@@ -11,9 +11,9 @@ use lib.ListN.{length, getD, length-set}
 use lib.IntN.{ℤ, pos}
 use lib.Seq.{ext-getD}
 use Rattle.laws.specs.Lists.{filled-more}
-use Rattle.trellis.specs.TrioLaws.{trio-fits}
+use Rattle.trellis.specs.Laws.Trio.{trio-fits}
 use Rattle.tetra.specs.Tetra.{natural}
-use Rattle.tetra.specs.Orders.{natural-at, natural-length}
+use Rattle.tetra.specs.Laws.Orders.{natural-at, natural-length}
 use Rattle.tetra.proofs.to_natural.Statement.{statement}
 use Rattle.tetra.proofs.to_natural.Tie as tie
 

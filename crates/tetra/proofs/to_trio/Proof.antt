@@ -11,9 +11,9 @@ use lib.ListN.{length, getD, length-set}
 use lib.IntN.{ℤ, pos}
 use lib.Seq.{ext-getD}
 use Rattle.laws.specs.Lists.{filled-more}
-use Rattle.trellis.specs.TrioLaws.{trio-fits}
+use Rattle.trellis.specs.Laws.Trio.{trio-fits}
 use Rattle.tetra.specs.Lattice.{trio}
-use Rattle.tetra.specs.Orders.{trio-at, trio-length}
+use Rattle.tetra.specs.Laws.Orders.{trio-at, trio-length}
 use Rattle.tetra.proofs.to_trio.Statement.{statement}
 use Rattle.tetra.proofs.to_trio.Tie as tie
 

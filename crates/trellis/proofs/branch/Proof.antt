@@ -3,7 +3,7 @@ use borrow.Author.Needs.{needs}
 use native.Mathlib.Omega.{arith}
 use Rattle.trellis.specs.Tables.{middles, nexts}
 use Rattle.trellis.specs.Trellis.{middleOf, nextOf}
-use Rattle.trellis.specs.Path.{row-at, row-beyond, row-past, middles-length, nexts-length}
+use Rattle.trellis.specs.Laws.Path.{row-at, row-beyond, row-past, middles-length, nexts-length}
 use Rattle.trellis.proofs.branch.Statement.{statement}
 use Rattle.trellis.proofs.branch.Tie as tie
 

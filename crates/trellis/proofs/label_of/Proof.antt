@@ -1,6 +1,6 @@
 -- The label that the columns of the way back give, where its codeword is the word.
 use borrow.Author.Needs.{needs}
-use Rattle.trellis.specs.CodeLaws.{backColumns}
+use Rattle.trellis.specs.Laws.Code.{backColumns}
 use Rattle.trellis.proofs.Ways.{label-found, label-lost}
 use Rattle.trellis.proofs.label_of.Statement.{statement}
 use Rattle.trellis.proofs.label_of.Tie as tie

@@ -4,7 +4,7 @@ use native.Mathlib.Omega.{arith}
 use mathlib.Core.Path.{sym, refl}
 use lib.ListN.{List·getD-eq-default}
 use Rattle.trellis.specs.Trio.{order}
-use Rattle.trellis.specs.TrioLaws.{order-length}
+use Rattle.trellis.specs.Laws.Trio.{order-length}
 use Rattle.trellis.proofs.order.Statement.{statement}
 use Rattle.trellis.proofs.order.Tie as tie
 

@@ -5,7 +5,7 @@ use mathlib.Core.Path.{sym, refl}
 use lib.ListN.{List·getD-eq-default}
 use Rattle.laws.specs.Lists.{tab}
 use Rattle.trellis.specs.Trio.{order, places}
-use Rattle.trellis.specs.TrioLaws.{places-length}
+use Rattle.trellis.specs.Laws.Trio.{places-length}
 use Rattle.trellis.proofs.place.Statement.{statement}
 use Rattle.trellis.proofs.place.Tie as tie
 

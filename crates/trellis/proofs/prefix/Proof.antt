@@ -4,7 +4,7 @@ use native.Mathlib.Omega.{arith}
 use mathlib.Core.Path.{sym}
 use Rattle.trellis.specs.Tables.{prefixes}
 use Rattle.trellis.specs.Trellis.{prefixOf}
-use Rattle.trellis.specs.Path.{row-at, row-beyond, row-past, prefixes-length}
+use Rattle.trellis.specs.Laws.Path.{row-at, row-beyond, row-past, prefixes-length}
 use Rattle.trellis.proofs.prefix.Statement.{statement}
 use Rattle.trellis.proofs.prefix.Tie as tie
 

@@ -4,7 +4,7 @@ use native.Mathlib.Omega.{arith}
 use mathlib.Core.Path.{sym}
 use Rattle.trellis.specs.Tables.{suffixes}
 use Rattle.trellis.specs.Trellis.{suffixOf}
-use Rattle.trellis.specs.Path.{row-at, row-beyond, row-past, suffixes-length}
+use Rattle.trellis.specs.Laws.Path.{row-at, row-beyond, row-past, suffixes-length}
 use Rattle.trellis.proofs.suffix.Statement.{statement}
 use Rattle.trellis.proofs.suffix.Tie as tie
 

@@ -7,7 +7,7 @@ use native.Mathlib.Omega.{arith}
 use lib.ListN.{getD}
 use Rattle.page.specs.declared.line.Digit.the-variants.{Value}
 use Rattle.page.specs.Reader.{hexAt, digitAt}
-use Rattle.page.specs.ReaderLaws.{digit-only}
+use Rattle.page.specs.Laws.Reader.{digit-only}
 use Rattle.page.proofs.Reading.{hex-step, hex-stop, hex-room}
 use Rattle.page.proofs.line.hex.Statement.{statement}
 use Rattle.page.proofs.line.hex.Tie as tie

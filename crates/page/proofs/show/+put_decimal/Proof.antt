@@ -8,7 +8,7 @@ use borrow.Fn.Kinds.{In}
 use borrow.Fn.PlainCycle.{Measures, is, falls, and}
 use Rattle.laws.specs.Lists.{sets-append}
 use Rattle.page.specs.Text.{decimal}
-use Rattle.page.specs.TextLaws.{decimal-small, decimal-more, decimal-longer, decimal-some}
+use Rattle.page.specs.Laws.Text.{decimal-small, decimal-more, decimal-longer, decimal-some}
 use Rattle.page.proofs.show.put_decimal.Reads as put-decimal
 use Rattle.page.proofs.show.put_decimal.Kinds as put-decimal-kinds
 use Rattle.page.proofs.show.+put_decimal.Lts-put_decimal as put-decimal-lts

@@ -6,7 +6,7 @@ use mathlib.Core.List.{_++_, append-assoc}
 use Prim.Native.Nat.{_≤_}
 use lib.ListN.{length}
 use Rattle.page.specs.Text.{bytes, decimal}
-use Rattle.page.specs.TextLaws.{decimal-fits}
+use Rattle.page.specs.Laws.Text.{decimal-fits}
 use Rattle.page.specs.Shown.{refusedText}
 use Rattle.page.proofs.Printing.{Written, written-more, written-as}
 use Rattle.page.proofs.show.put_refused.Statement.{statement}

@@ -9,7 +9,7 @@ use lib.IntN.{natAbs}
 use lib.ListN.{length, length-set}
 use mir.Facts.{toZ-ofZ}
 use Rattle.page.specs.Text.{decimal}
-use Rattle.page.specs.TextLaws.{decimal-fits}
+use Rattle.page.specs.Laws.Text.{decimal-fits}
 use Rattle.page.specs.Shown.{signed}
 use Rattle.page.proofs.Printing.{signed-below, signed-above}
 use Rattle.page.proofs.show.put_signed.Statement.{statement}

@@ -2,7 +2,7 @@
 use mathlib.Core.Path.{refl}
 use Rattle.rank.specs.Coord.{valOf}
 use Rattle.search.specs.Tables.{fallbackBytes, fallbackKeys}
-use Rattle.resolve.specs.Points.{pointsFrom}
+use Rattle.resolve.specs.Inner.{pointsFrom}
 use Rattle.resolve.proofs.tables.fallback_points.Statement.{statement}
 use Rattle.resolve.proofs.tables.fallback_points.Tie as tie
 

@@ -1,0 +1,3 @@
+-- the order of points as one number; the least number of a region, coordinate by coordinate
+pub mod Order
+pub mod Lower

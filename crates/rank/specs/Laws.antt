@@ -1,0 +1,5 @@
+pub mod RankOrder
+pub mod Coord
+pub mod Vector
+pub mod Section
+pub mod Lookup

@@ -1,0 +1,9 @@
+pub mod Linear
+pub mod Words
+pub mod Code
+pub mod Path
+pub mod States
+pub mod Back
+pub mod StateBytes
+pub mod Trio
+pub mod Numbering
