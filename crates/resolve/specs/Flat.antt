@@ -1,5 +1,5 @@
 -- The entries of the join in the form that the code has: over the bytes of a section in one list, the fallbacks and the bases in lists, and any
--- search `sol` of a section (byte, class, bound, shrinks). FlatLaws proves them equal to the definition in crate search.
+-- search `sol` of a section (byte, class, bound, shrinks). Laws proves them equal to the definition in crate search.
 use mathlib.Core.Bool.{true, false, cond}
 use mathlib.Core.List.{List}
 use Prim.Native.Nat.{ℕ, _+_, _*_, _/_, _%_}

@@ -25,7 +25,7 @@ alpha64 = fin false 2898516720175651 (negsuc 52)
 abbrev pub ratio64 : Float
 ratio64 = fin false 5134103575202365 (negsuc 51)
 
--- the root of 24.0: that its bits are 0x4013_988e_1409_212e is `root24-is` of ScaleLaws.antt
+-- the root of 24.0: that its bits are 0x4013_988e_1409_212e is `root24-is` of Laws/Scale.antt
 unfoldable pub root24 : Float
 root24 = rooted (fin false 3 (pos 3)) .root
 

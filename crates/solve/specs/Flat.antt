@@ -1,5 +1,5 @@
 -- The search of one pattern in the form that the code has: over the flat rows of a section (crate coord), with the places of the pattern's eight
--- records at one shrink in a list, and both steps of a coordinate in one turn. FlatLaws proves it equal to the definition in crate search.
+-- records at one shrink in a list, and both steps of a coordinate in one turn. Laws proves it equal to the definition in crate search.
 use mathlib.Core.Bool.{Bool, true, false, cond}
 use mathlib.Core.List.{List}
 use Prim.Native.Nat.{ℕ, zero, suc, _+_, _-_, _*_, _/_, _%_, _^_, min}

@@ -34,7 +34,7 @@ use Rattle.float.specs.Laws.Error.{halfUlp, Rounded}
 use Rattle.float.specs.Laws.Near.{Near, near-self, near-zero, near-more, near-parts, near-mag-plain, mag-near-plain}
 use Rattle.float.specs.Laws.Arrays.{quotients-length}
 use Rattle.float.specs.Laws.Arithmetic.{div-fraction, fraction-rounded, mul-rounded}
-use Rattle.float.specs.Margin as sums
+use Rattle.float.specs.Laws.Margin as sums
 use Rattle.root.specs.Root.{rooted}
 use Rattle.root.specs.Nearest.{root-from, root-upto, rooted-nearest}
 use Rattle.score.specs.Score.{products, dotOf}
