@@ -92,15 +92,15 @@ round-neg x = go (isMinus x) (halfUp x)
     go true (suc h) = refl
 
 -- ---- the range
-million-mag : magUnits million64 ≡ 1000000 * U
+pub million-units : magUnits million64 ≡ 1000000 * U
 unfolding magUnits
-million-mag = refl
+million-units = refl
 
-minus-mag : magUnits minusMillion64 ≡ 1000000 * U
+minus-units : magUnits minusMillion64 ≡ 1000000 * U
 unfolding magUnits
-minus-mag = refl
+minus-units = refl
 
-million-fits : T (fits binary64 million64)
+pub million-fits : T (fits binary64 million64)
 unfolding fits
 million-fits = tt
 
@@ -126,19 +126,19 @@ between true g m n k d e h l = omega arith
 pub clamped-range : (z : Float) → T (fits binary64 z) → Ranged (clamped z)
 unfolding clamped lt
 clamped-range nan f = inl refl
-clamped-range (inf true) f = inr (tt, le-of-eq minus-mag)
-clamped-range (inf false) f = inr (tt, le-of-eq million-mag)
+clamped-range (inf true) f = inr (tt, le-of-eq minus-units)
+clamped-range (inf false) f = inr (tt, le-of-eq million-units)
 clamped-range (fin s m e) f = go (lt z minusMillion64) (lt million64 z) refl refl
   where
     z : Float
     z = fin s m e
 
     go : (a b : Bool) → lt z minusMillion64 ≡ a → lt million64 z ≡ b → Ranged (cond a minusMillion64 (cond b million64 z))
-    go true b p q = inr (tt, le-of-eq minus-mag)
-    go false true p q = inr (tt, le-of-eq million-mag)
+    go true b p q = inr (tt, le-of-eq minus-units)
+    go false true p q = inr (tt, le-of-eq million-units)
     go false false p q = inr (
       tt,
-      between s (magUnits z) (magUnits million64) (magUnits minusMillion64) (1000000 * U) million-mag minus-mag
+      between s (magUnits z) (magUnits million64) (magUnits minusMillion64) (1000000 * U) million-units minus-units
           (not-lt-is z minusMillion64 f minus-fits tt tt p) (not-lt-is million64 z million-fits f tt tt q),
     )
 
@@ -158,17 +158,20 @@ clamped-small z f i h =
     high true g n k e h l = omega arith
 
     below : T (lt z minusMillion64) → ⊥
-    below t = low (isMinus z) (magUnits z) (magUnits minusMillion64) (1000000 * U) minus-mag h (lt-is z minusMillion64 f minus-fits i tt t)
+    below t = low (isMinus z) (magUnits z) (magUnits minusMillion64) (1000000 * U) minus-units h (lt-is z minusMillion64 f minus-fits i tt t)
 
     above : T (lt million64 z) → ⊥
-    above t = high (isMinus z) (magUnits z) (magUnits million64) (1000000 * U) million-mag h (lt-is million64 z million-fits f tt i t)
+    above t = high (isMinus z) (magUnits z) (magUnits million64) (1000000 * U) million-units h (lt-is million64 z million-fits f tt i t)
 
 pub rounded-small : (z : Float) → T (fits binary64 z) → T (finite z) → magUnits z ≤ 1000000 * U → rounded z ≡ roundAway z
 unfolding rounded
 rounded-small z f i h = ap roundAway (clamped-small z f i h)
 
 pub halfUp-le : (x : Float) → magUnits x ≤ 1000000 * U → halfUp x ≤ 1000000
-halfUp-le x h = le-of-suc-le-suc (lt-of-mul-lt-mul-right U (under (halfUp x * U) (magUnits x) U (1000000 * U) (1000001 * U) (halved x .hi) h (lit≤ tt) (pow-pos 1074)))
+halfUp-le x h =
+    le-of-suc-le-suc
+    (lt-of-mul-lt-mul-right U
+    (under (halfUp x * U) (magUnits x) U (1000000 * U) (1000001 * U) (halved x .hi) h (lit≤ tt) (pow-pos 1074)))
   where
     under : (a g u m n : ℕ) → a * 2 ≤ g * 2 + u → g ≤ m → m + u ≤ n → 0 < u → a < n
     under a g u m n p q r s = omega arith
@@ -182,7 +185,11 @@ pub record Small (z : Float) : Type 0 where
 -- the answer is at most a million in size
 pub rounded-le : (z : Float) → T (fits binary64 z) → natAbs (rounded z) ≤ 1000000
 unfolding rounded
-rounded-le z f = elim (clamped-range z f) [ inl e ↦ subst (λ (c : Float). natAbs (roundAway c) ≤ 1000000) (sym e) none | inr r ↦ size (clamped z) (r .1) ]
+rounded-le z f =
+    elim (clamped-range z f) [
+      | inl e ↦ subst (λ (c : Float). natAbs (roundAway c) ≤ 1000000) (sym e) none
+      | inr r ↦ size (clamped z) (r .1)
+    ]
   where
     none : natAbs (roundAway nan) ≤ 1000000
     none = unfold roundAway halfUp magUnits in lit≤ tt

@@ -29,7 +29,7 @@ use lib.Ieee.Scale.{finite}
 use Rattle.laws.specs.Whole.{gap}
 use Rattle.float.specs.Value.{U, magUnits, isMinus, posUnits, zero64}
 use Rattle.float.specs.Calls.{quotientsOf}
-use Rattle.float.specs.Laws.Exact.{parts}
+use Rattle.float.specs.Laws.Exact.{parts, unlike-same}
 use Rattle.float.specs.Laws.Error.{halfUlp, Rounded}
 use Rattle.float.specs.Laws.Near.{Near, near-self, near-zero, near-more, near-parts, near-mag-plain, mag-near-plain}
 use Rattle.float.specs.Laws.Arrays.{quotients-length}
@@ -87,10 +87,6 @@ sq q u = mul-rounded q q 2 (u .fit) (u .fit) (u .fin) (u .fin) (lit≤ tt) (lt-o
     room : (U + 2 ^ 1021) * (U + 2 ^ 1021) < 2 ^ 1076 * U
     room = lit≤ tt
 
-pub same-sign : (s : Bool) → unlike s s ≡ false
-same-sign false = refl
-same-sign true = refl
-
 record Square (t : Float) : Type 0 where
   plain : Plain t
   le : magUnits t ≤ U + 2 ^ 1026
@@ -100,7 +96,7 @@ square q u =
     let r = sq q u in
     let room : (U + 2 ^ 1021) * (U + 2 ^ 1021) + 2 ^ 1022 * U ≤ (U + 2 ^ 1026) * U = lit≤ tt in
     record {
-      plain = record { fit = r .fit; fin = r .fin; sign = r .sign ∙ same-sign (isMinus q) };
+      plain = record { fit = r .fit; fin = r .fin; sign = r .sign ∙ unlike-same (isMinus q) };
       le = le-of-mul-le-mul-right (le-trans (r .hi) (le-trans (add-le-add (mul-le-mul (u .le) (u .le)) (le-refl (2 ^ 1022 * U))) room)) (pow-pos 1074);
     }
 

@@ -35,7 +35,7 @@ use Rattle.laws.specs.Tests.{is-true}
 use Rattle.laws.specs.Whole.{gap, posPart, negPart}
 use Rattle.float.specs.Value.{U, magUnits, isMinus, posUnits, negUnits, zero64}
 use Rattle.float.specs.Calls.{sumFrom}
-use Rattle.float.specs.Laws.Exact.{zero-fits, zero-mag, mag-parts, ofInt-whole}
+use Rattle.float.specs.Laws.Exact.{zero-fits, zero-mag, mag-parts, ofInt-whole, unlike-same}
 use Rattle.float.specs.Laws.Error.{halfUlp}
 use Rattle.float.specs.Laws.Near.{near-self, near-mag-plain}
 use Rattle.float.specs.Laws.Arithmetic.{near-add, mul-rounded, div-fraction, fraction-rounded, add-grows}
@@ -46,7 +46,6 @@ use Rattle.score.specs.Samples.{limit64, sampleNumber}
 use Rattle.score.specs.Score.{products, dotOf, doublesOf, scoreOf, tOf}
 use Rattle.score.specs.Laws.Sample.{AllFit, UpTo, Each, none, more, Sample, samples-are}
 use Rattle.score.specs.Laws.Largest.{Plain, above-zero}
-use Rattle.score.specs.Laws.Norm.{same-sign}
 use Rattle.score.specs.Laws.Scale.{at-least, cancel}
 
 -- ---- a whole number of 32 bits as a double
@@ -190,7 +189,7 @@ square-is y u =
         fin = r .fin;
         le = le-of-mul-le-mul-right (le-trans (r .hi) (le-trans (add-le-add (mul-le-mul (u .le) (u .le)) (le-refl (2 ^ 1083 * U))) top)) (pow-pos 1074);
       },
-      record { fit = r .fit; fin = r .fin; sign = r .sign ∙ same-sign (isMinus y) },
+      record { fit = r .fit; fin = r .fin; sign = r .sign ∙ unlike-same (isMinus y) },
     )
 
 -- of a whole number that is not 0: a half at least
