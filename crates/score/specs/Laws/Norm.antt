@@ -36,7 +36,8 @@ use Rattle.float.specs.Laws.Arrays.{quotients-length}
 use Rattle.float.specs.Laws.Arithmetic.{div-fraction, fraction-rounded, mul-rounded}
 use Rattle.float.specs.Laws.Margin as sums
 use Rattle.root.specs.Root.{rooted}
-use Rattle.root.specs.Nearest.{root-from, root-upto, rooted-nearest}
+use Rattle.root.specs.Nearest.{rooted-nearest}
+use Rattle.root.specs.Laws.{root-from, root-upto}
 use Rattle.score.specs.Score.{products, dotOf}
 use Rattle.score.specs.Scale.{unitNorm}
 use Rattle.score.specs.Laws.Sample.{UpTo, Each, none, more}
@@ -97,7 +98,8 @@ square q u =
     let room : (U + 2 ^ 1021) * (U + 2 ^ 1021) + 2 ^ 1022 * U ≤ (U + 2 ^ 1026) * U = lit≤ tt in
     record {
       plain = record { fit = r .fit; fin = r .fin; sign = r .sign ∙ unlike-same (isMinus q) };
-      le = le-of-mul-le-mul-right (le-trans (r .hi) (le-trans (add-le-add (mul-le-mul (u .le) (u .le)) (le-refl (2 ^ 1022 * U))) room)) (pow-pos 1074);
+      le = le-of-mul-le-mul-right (le-trans (r .hi) (le-trans (add-le-add (mul-le-mul (u .le) (u .le)) (le-refl (2 ^ 1022 * U))) room))
+          (pow-pos 1074);
     }
 
 square-ge : (q : Float) → UpTo (U + 2 ^ 1021) q → U ≤ magUnits q + 2 ^ 1021 → U ≤ magUnits (mul binary64 q q) + 2 ^ 1024
@@ -159,7 +161,8 @@ squares-length [] = refl
 squares-length (q ∷ qs) = ap suc (squares-length qs)
 
 module _ (m : Float) (p : Plain m) (M : 0 < magUnits m) where
-  total-ge : (xs : List Float) → Each (UpTo (magUnits m)) xs → Has (magUnits m) xs → U ≤ total (products (quotientsOf xs m) (quotientsOf xs m)) + 2 ^ 1024
+  total-ge : (xs : List Float) → Each (UpTo (magUnits m)) xs → Has (magUnits m) xs
+      → U ≤ total (products (quotientsOf xs m) (quotientsOf xs m)) + 2 ^ 1024
   unfolding total products quotientsOf
   total-ge (x ∷ xs) (more u e) (here i) =
       let q = div binary64 x m in

@@ -234,7 +234,8 @@ choice-is xs = go (eq (largestOf xs) zero64) refl
     zeros = record { number = 0; largest = zero64; scale = zero64 }
 
     go : (b : Bool) → eq (largestOf xs) zero64 ≡ b
-        → choiceFrom xs (cond b zeros (record { number = 0; largest = largestOf xs; scale = derivedScale xs })) ≡ chosen xs b (isNormal (derivedScale xs))
+        → choiceFrom xs (cond b zeros (record { number = 0; largest = largestOf xs; scale = derivedScale xs }))
+        ≡ chosen xs b (isNormal (derivedScale xs))
     go true h = unfold eq in refl
     go false h = rw h
 

@@ -41,7 +41,8 @@ use Rattle.float.specs.Laws.Near.{near-self, near-mag-plain}
 use Rattle.float.specs.Laws.Arithmetic.{near-add, mul-rounded, div-fraction, fraction-rounded, add-grows}
 use Rattle.float.specs.Laws.Relative.{mul-close}
 use Rattle.root.specs.Root.{rooted}
-use Rattle.root.specs.Nearest.{root-from, rooted-nearest}
+use Rattle.root.specs.Nearest.{rooted-nearest}
+use Rattle.root.specs.Laws.{root-from}
 use Rattle.score.specs.Samples.{limit64, sampleNumber}
 use Rattle.score.specs.Score.{products, dotOf, doublesOf, scoreOf, tOf}
 use Rattle.score.specs.Laws.Sample.{AllFit, UpTo, Each, none, more, Sample, samples-are}
@@ -121,7 +122,8 @@ module _ (t b : ℕ) (B : b ≤ 1023) (H : halfUlp b ≤ t) where
   -- where none is negative, the sum is no smaller than any of them
   sum-grows : (acc : Float) (ts : List Float) (c : ℕ) → UpTo c acc → isMinus acc ≡ false → Each (UpTo t) ts → Each Plain ts
       → c + length ts * (2 * t) < 2 ^ (b + 1074)
-      → (isMinus (sumFrom acc ts) ≡ false) × (magUnits acc ≤ magUnits (sumFrom acc ts)) × Each (λ (x : Float). magUnits x ≤ magUnits (sumFrom acc ts)) ts
+      → (isMinus (sumFrom acc ts) ≡ false) × (magUnits acc ≤ magUnits (sumFrom acc ts))
+      × Each (λ (x : Float). magUnits x ≤ magUnits (sumFrom acc ts)) ts
   unfolding sumFrom
   sum-grows acc [] c u s none none h = (s, le-refl (magUnits acc), none)
   sum-grows acc (x ∷ xs) c u s (more w e) (more p q) h =
@@ -187,7 +189,8 @@ square-is y u =
       record {
         fit = r .fit;
         fin = r .fin;
-        le = le-of-mul-le-mul-right (le-trans (r .hi) (le-trans (add-le-add (mul-le-mul (u .le) (u .le)) (le-refl (2 ^ 1083 * U))) top)) (pow-pos 1074);
+        le = le-of-mul-le-mul-right (le-trans (r .hi) (le-trans (add-le-add (mul-le-mul (u .le) (u .le)) (le-refl (2 ^ 1083 * U))) top))
+            (pow-pos 1074);
       },
       record { fit = r .fit; fin = r .fin; sign = r .sign ∙ unlike-same (isMinus y) },
     )
