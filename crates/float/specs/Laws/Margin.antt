@@ -30,8 +30,8 @@ use lib.ListN.{length}
 use lib.Ieee.{Float, binary64, fits, add, sub, ofInt, lt}
 use lib.Ieee.Scale.{finite}
 use Rattle.laws.specs.Whole.{posPart, negPart, gap}
-use Rattle.float.specs.Value.{U, magUnits, posUnits, negUnits}
-use Rattle.float.specs.Calls.{sumFrom}
+use Rattle.float.specs.Value.{U, magUnits, posUnits, negUnits, zero64}
+use Rattle.float.specs.Calls.{sumFrom, sumOf}
 use Rattle.float.specs.Distance.{coordGap, sqDist, margin, sqDiff, sqTerms, floatDist}
 use Rattle.float.specs.Laws.Exact.{mag-parts, IsWhole, ofInt-whole}
 use Rattle.float.specs.Laws.Error.{halfUlp}
@@ -77,6 +77,18 @@ near-sum c f acc (x ∷ xs) {i} {j} {e} b B (more {q = q} {m = m} {p = p} {n = n
 
     regroup : (q m p n : ℕ) → i + q + p + (j + (m + n)) ≡ i + (q + p) + (j + m + n)
     regroup q m p n = omega arith
+
+-- at most k terms, from +0.0
+pub near-sumOf : (c f : ℕ) (xs : List Float) {s : ℕ} (b k e : ℕ) → b ≤ 1023 → Terms c f xs s 0 → length xs ≤ k
+    → s + k * (f + halfUlp b * c) < 2 ^ (b + 1074) * c → k * (f + halfUlp b * c) ≤ e → Near c (sumOf xs) s 0 e
+near-sumOf c f xs {s} b k e B t l room small =
+    let w = f + halfUlp b * c in
+    let lw : length xs * w ≤ k * w = mul-le-mul-right w l in
+    let r = near-sum c f zero64 xs b B t (near-zero c) (lt-of-le-of-lt (from-zero (length xs * w) (k * w) lw) room) in
+    near-more e (near-parts s 0 r (omega arith)) (le-trans (le-of-eq (zero-add (length xs * w))) (le-trans lw small))
+  where
+    from-zero : (a b : ℕ) → a ≤ b → 0 + 0 + 0 + (s + 0) + a ≤ s + b
+    from-zero a b h = omega arith
 
 -- ---- one squared difference, of |v| + |t| below 64: within 2 ^ -38
 abbrev pub apart : Float → Float → ℕ
@@ -176,20 +188,10 @@ dist-le (y ∷ ys) (t ∷ ts) a =
 pub near-dist : (ys : List ℤ) (ts : List Float) → length ts ≤ 24 → AllTame ys ts → Near U (floatDist ys ts) (sqDist ys ts) 0 (2 ^ 2117)
 near-dist ys ts n a =
     let w = 2 ^ 2110 + halfUlp 18 * U in
-    let l = length (sqTerms ys ts) in
-    let lw : l * w ≤ 24 * w = mul-le-mul-right w (le-trans (terms-length ys ts) n) in
     let d : sqDist ys ts ≤ 24 * 2 ^ 2160 = le-trans (dist-le ys ts a) (mul-le-mul-right (2 ^ 2160) n) in
     let top : 24 * 2 ^ 2160 + 24 * w < 2 ^ 1092 * U = lit≤ tt in
-    let all : 24 * w ≤ 2 ^ 2117 = lit≤ tt in
-    let r = near-sum U (2 ^ 2110) _ (sqTerms ys ts) 18 (lit≤ tt) (terms ys ts a) (near-zero U)
-    (lt-of-le-of-lt (room (sqDist ys ts) (l * w) (24 * 2 ^ 2160) (24 * w) d lw) top) in
-    near-more (2 ^ 2117) (near-parts (sqDist ys ts) 0 r (plain (sqDist ys ts))) (le-trans (le-of-eq (zero-add (l * w))) (le-trans lw all))
-  where
-    room : (s a b c : ℕ) → s ≤ b → a ≤ c → 0 + 0 + 0 + (s + 0) + a ≤ b + c
-    room s a b c h k = omega arith
-
-    plain : (s : ℕ) → 0 + s + 0 ≡ s + (0 + 0)
-    plain s = omega arith
+    near-sumOf U (2 ^ 2110) (sqTerms ys ts) 18 24 (2 ^ 2117) (lit≤ tt) (terms ys ts a) (le-trans (terms-length ys ts) n)
+    (lt-of-le-of-lt (add-le-add d (le-refl (24 * w))) top) (lit≤ tt)
 
 -- ---- the theorem
 pub margin-decides : (ys zs : List ℤ) (ts : List Float) → length ts ≤ 24 → AllTame ys ts → AllTame zs ts → sqDist ys ts + margin ≤ sqDist zs ts

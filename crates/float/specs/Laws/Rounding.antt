@@ -27,7 +27,7 @@ use native.Mathlib.Nat.{
 }
 use native.Mathlib.Omega.{arith}
 use lib.Dec.{T, lit≤}
-use lib.IntN.{pos, negℤ, natAbs}
+use lib.IntN.{ℤ, pos, negℤ, natAbs}
 use lib.Pow.{pow-pos}
 use lib.Ieee.{Float, nan, inf, fin, binary64, fits, sub, div, lt}
 use lib.Ieee.Fits.{cond-fits}
@@ -63,33 +63,18 @@ pub halved : (x : Float) → Halved x
 unfolding halfUp
 halved x = record { hi = cut-hi (magUnits x) U; lo = cut-lo (magUnits x) U (pow-pos 1074) }
 
--- the magnitude and the two parts of the rounded number
-pub round-abs : (x : Float) → natAbs (roundAway x) ≡ halfUp x
-unfolding roundAway
-round-abs x = go (isMinus x) (halfUp x)
-  where
-    go : (s : Bool) (h : ℕ) → natAbs (cond s (negℤ (pos h)) (pos h)) ≡ h
-    go false h = refl
-    go true zero = refl
-    go true (suc h) = refl
+-- r is the whole number of the magnitude h, with the sign s: its magnitude and its two parts
+abbrev Signed : Bool → ℕ → ℤ → Type 0
+Signed s h r = (natAbs r ≡ h) × (posPart r ≡ cond s 0 h) × (negPart r ≡ cond s h 0)
 
-pub round-pos : (x : Float) → posPart (roundAway x) ≡ cond (isMinus x) 0 (halfUp x)
+round-parts : (x : Float) → Signed (isMinus x) (halfUp x) (roundAway x)
 unfolding roundAway
-round-pos x = go (isMinus x) (halfUp x)
+round-parts x = go (isMinus x) (halfUp x)
   where
-    go : (s : Bool) (h : ℕ) → posPart (cond s (negℤ (pos h)) (pos h)) ≡ cond s 0 h
-    go false h = refl
-    go true zero = refl
-    go true (suc h) = refl
-
-pub round-neg : (x : Float) → negPart (roundAway x) ≡ cond (isMinus x) (halfUp x) 0
-unfolding roundAway
-round-neg x = go (isMinus x) (halfUp x)
-  where
-    go : (s : Bool) (h : ℕ) → negPart (cond s (negℤ (pos h)) (pos h)) ≡ cond s h 0
-    go false h = refl
-    go true zero = refl
-    go true (suc h) = refl
+    go : (s : Bool) (h : ℕ) → Signed s h (cond s (negℤ (pos h)) (pos h))
+    go false h = (refl, refl, refl)
+    go true zero = (refl, refl, refl)
+    go true (suc h) = (refl, refl, refl)
 
 -- ---- the range
 pub million-units : magUnits million64 ≡ 1000000 * U
@@ -195,7 +180,7 @@ rounded-le z f =
     none = unfold roundAway halfUp magUnits in lit≤ tt
 
     size : (c : Float) → magUnits c ≤ 1000000 * U → natAbs (roundAway c) ≤ 1000000
-    size c h = le-trans (le-of-eq (round-abs c)) (halfUp-le c h)
+    size c h = le-trans (le-of-eq (round-parts c .0)) (halfUp-le c h)
 
 -- ---- k = roundAway z for z near (t - o) / 4: 4 k is within 2 of t - o, but for the error
 abbrev Two : ℕ → ℕ → ℕ → ℕ → ℕ → ℕ → Type 0
@@ -210,8 +195,8 @@ two true g h u p n e a b c d = let z : 0 * u ≡ 0 = zero-mul u in (omega arith,
 pub round-close : {z : Float} {p n e : ℕ} → Near 4 z p n e → Two (posPart (roundAway z)) (negPart (roundAway z)) p n U e
 round-close {z} {p} {n} {e} a =
     let h = halved z in
-    subst (λ (i : ℕ). Two i (negPart (roundAway z)) p n U e) (sym (round-pos z))
-    (subst (λ (j : ℕ). Two (cond (isMinus z) 0 (halfUp z)) j p n U e) (sym (round-neg z))
+    subst (λ (i : ℕ). Two i (negPart (roundAway z)) p n U e) (sym (round-parts z .1))
+    (subst (λ (j : ℕ). Two (cond (isMinus z) 0 (halfUp z)) j p n U e) (sym (round-parts z .2))
     (two (isMinus z) (magUnits z) (halfUp z) U p n e (h .hi) (le-of-lt (h .lo)) (a .lo) (a .hi)))
 
 -- So no other k is nearer by more than the error: g0 is the distance of this one, g that of another, which lies at least 4 away.

@@ -96,6 +96,13 @@ module _ (t b : ℕ) (B : b ≤ 1023) (H : halfUlp b ≤ t) where
       go : (pa na px nx ma mx e : ℕ) → ma ≡ pa + na → mx ≡ px + nx → ma ≤ c → mx ≤ t → e ≤ t → gap (pa + px) (na + nx) + (0 + 0 + e * 1) ≤ c + 2 * t
       go pa na px nx ma mx e i j k l m = omega arith
 
+  -- of z, which is 2 t more than l, there is room for the next term, and then for the rest
+  now : (c l z p : ℕ) → z ≡ l + 2 * t → c + z < p → c + t < p
+  now c l z p i h = omega arith
+
+  later : (c l z p : ℕ) → z ≡ l + 2 * t → c + z < p → c + 2 * t + l < p
+  later c l z p i h = omega arith
+
   sum-small : (acc : Float) (ts : List Float) (c : ℕ) → UpTo c acc → Each (UpTo t) ts → c + length ts * (2 * t) < 2 ^ (b + 1074)
       → UpTo (c + length ts * (2 * t)) (sumFrom acc ts)
   unfolding sumFrom
@@ -106,16 +113,10 @@ module _ (t b : ℕ) (B : b ≤ 1023) (H : halfUlp b ≤ t) where
   sum-small acc (x ∷ xs) c u (more w e) h =
       let l = length xs * (2 * t) in
       let s : suc (length xs) * (2 * t) ≡ l + 2 * t = suc-mul (length xs) (2 * t) in
-      let r = sum-small (add binary64 acc x) xs (c + 2 * t) (add-small acc x c u w (now l (suc (length xs) * (2 * t)) (2 ^ (b + 1074)) s h)) e
-      (later l (suc (length xs) * (2 * t)) (2 ^ (b + 1074)) s h) in
+      let r = sum-small (add binary64 acc x) xs (c + 2 * t) (add-small acc x c u w (now c l (suc (length xs) * (2 * t)) (2 ^ (b + 1074)) s h)) e
+      (later c l (suc (length xs) * (2 * t)) (2 ^ (b + 1074)) s h) in
       record { fit = r .fit; fin = r .fin; le = le-trans (r .le) (le-of-eq (same l (suc (length xs) * (2 * t)) s)) }
     where
-      now : (l z p : ℕ) → z ≡ l + 2 * t → c + z < p → c + t < p
-      now l z p i h = omega arith
-
-      later : (l z p : ℕ) → z ≡ l + 2 * t → c + z < p → c + 2 * t + l < p
-      later l z p i h = omega arith
-
       same : (l z : ℕ) → z ≡ l + 2 * t → c + 2 * t + l ≡ c + z
       same l z i = omega arith
 
@@ -129,19 +130,17 @@ module _ (t b : ℕ) (B : b ≤ 1023) (H : halfUlp b ≤ t) where
   sum-grows acc (x ∷ xs) c u s (more w e) (more p q) h =
       let l = length xs * (2 * t) in
       let z : suc (length xs) * (2 * t) ≡ l + 2 * t = suc-mul (length xs) (2 * t) in
-      let a = add-small acc x c u w (now l (suc (length xs) * (2 * t)) (2 ^ (b + 1074)) z h) in
+      let a = add-small acc x c u w (now c l (suc (length xs) * (2 * t)) (2 ^ (b + 1074)) z h) in
       let g = add-grows acc x (u .fit) (w .fit) (u .fin) (w .fin) s (p .sign) (a .fin) in
-      let r = sum-grows (add binary64 acc x) xs (c + 2 * t) a (g .sign) e q (later l (suc (length xs) * (2 * t)) (2 ^ (b + 1074)) z h) in
+      let r = sum-grows (add binary64 acc x) xs (c + 2 * t) a (g .sign) e q (later c l (suc (length xs) * (2 * t)) (2 ^ (b + 1074)) z h) in
       (r .0, le-trans (g .left) (r .1), more (le-trans (g .right) (r .1)) (r .2))
-    where
-      now : (l z p : ℕ) → z ≡ l + 2 * t → c + z < p → c + t < p
-      now l z p i h = omega arith
-
-      later : (l z p : ℕ) → z ≡ l + 2 * t → c + z < p → c + 2 * t + l < p
-      later l z p i h = omega arith
 
 zero-upto : UpTo 0 zero64
 zero-upto = record { fit = zero-fits; fin = tt; le = le-of-eq zero-mag }
+
+-- at most 24 terms
+few : (t p l : ℕ) → l ≤ 24 → 24 * (2 * t) < p → 0 + l * (2 * t) < p
+few t p l n h = lt-of-le-of-lt (le-trans (le-of-eq (zero-add (l * (2 * t)))) (mul-le-mul-right (2 * t) n)) h
 
 -- ---- x·y
 product-is : (x y : Float) → Sample x → UpTo (2 ^ 31 * U) y → UpTo (2 ^ 2070) (mul binary64 x y)
@@ -173,10 +172,7 @@ products-length (x ∷ xs) (y ∷ ds) = suc-le-suc (products-length xs ds)
 
 dot-is : (xs ds : List Float) → length xs ≤ 24 → Each Sample xs → Each (UpTo (2 ^ 31 * U)) ds → UpTo (2 ^ 2076) (dotOf xs ds)
 dot-is xs ds n d e =
-    let l = length (products xs ds) in
-    let most : l * (2 * 2 ^ 2070) ≤ 24 * (2 * 2 ^ 2070) = mul-le-mul-right (2 * 2 ^ 2070) (le-trans (products-length xs ds) n) in
-    let top : 24 * (2 * 2 ^ 2070) < 2 ^ 2076 = lit≤ tt in
-    let less : 0 + l * (2 * 2 ^ 2070) < 2 ^ 2076 = lt-of-le-of-lt (le-trans (le-of-eq (zero-add (l * (2 * 2 ^ 2070)))) most) top in
+    let less = few (2 ^ 2070) (2 ^ 2076) (length (products xs ds)) (le-trans (products-length xs ds) n) (lit≤ tt) in
     let r = sum-small (2 ^ 2070) 1002 (lit≤ tt) (lit≤ tt) zero64 (products xs ds) 0 zero-upto (products-are xs ds d e) less in
     record { fit = r .fit; fin = r .fin; le = le-trans (r .le) (le-of-lt less) }
 
@@ -279,11 +275,8 @@ score-finite xs ys f a m h n k l p =
     let ds = doublesOf ys in
     let e = doubles-are ys h in
     let s = squares-are ds e in
-    let most : length (products ds ds) * (2 * 2 ^ 1137) ≤ 24 * (2 * 2 ^ 1137) =
-    mul-le-mul-right (2 * 2 ^ 1137) (le-trans (products-length ds ds) (le-trans (le-of-eq (doubles-length ys)) n)) in
-    let top : 24 * (2 * 2 ^ 1137) < 2 ^ 1143 = lit≤ tt in
-    let less : 0 + length (products ds ds) * (2 * 2 ^ 1137) < 2 ^ 1143 =
-    lt-of-le-of-lt (le-trans (le-of-eq (zero-add (length (products ds ds) * (2 * 2 ^ 1137)))) most) top in
+    let many = le-trans (products-length ds ds) (le-trans (le-of-eq (doubles-length ys)) n) in
+    let less = few (2 ^ 1137) (2 ^ 1143) (length (products ds ds)) many (lit≤ tt) in
     let r = sum-small (2 ^ 1137) 69 (lit≤ tt) (lit≤ tt) zero64 (products ds ds) 0 zero-upto (s .0) less in
     let g = sum-grows (2 ^ 1137) 69 (lit≤ tt) (lit≤ tt) zero64 (products ds ds) 0 zero-upto refl (s .0) (s .1) less in
     over-root-finite (dotOf xs ds) (dotOf ds ds) (dot-is xs ds m (samples-are xs f a) e) (record { fit = r .fit; fin = r .fin; sign = g .0 })
