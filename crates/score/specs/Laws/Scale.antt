@@ -1,5 +1,5 @@
--- How large the scale is that comes of a largest magnitude and a norm: one 15.9th of the largest magnitude at least, once it is 32 units or more,
--- and 0.323 of it at most, but for two units. Assumes nothing.
+-- How large the scale is that comes of a largest magnitude and a norm: one 15.9th of the largest magnitude at least, once it is 32 units or more.
+-- Assumes nothing.
 use mathlib.Core.Path.{_≡_, refl, sym, ap, ap₂, _∙_, subst}
 use mathlib.Core.Bool.{Bool, false}
 use Prim.Native.Nat.{ℕ, _+_, _*_, _^_, _≤_, _<_}
@@ -70,9 +70,6 @@ at-least a c u h = omega arith
 at-most : (a c u : ℕ) → c * 2 ^ 53 ≤ a * 2 ^ 53 + a + 2 ^ 52 * u → c ≤ 2 * a + u
 at-most a c u h = omega arith
 
-at-most-finely : (a c u : ℕ) → c * 2 ^ 53 ≤ a * 2 ^ 53 + a + 2 ^ 52 * u → 10000 * c ≤ 10001 * a + 5001 * u
-at-most-finely a c u h = omega arith
-
 pub cancel : (i j k x y u : ℕ) → 0 < u → i * (x * u) ≤ j * (y * u) + k * u → i * x ≤ j * y + k
 cancel i j k x y u P h =
     le-of-mul-le-mul-right
@@ -83,40 +80,21 @@ cancel i j k x y u P h =
 cancel1 : (j k x y u : ℕ) → 0 < u → x * u ≤ j * (y * u) + k * u → x ≤ j * y + k
 cancel1 j k x y u P h = le-trans (le-of-eq (sym (one-mul x))) (cancel 1 j k x y u P (le-trans (le-of-eq (one-mul (x * u))) h))
 
--- a bound on a factor, as one on the product: x times what is i / j of u or more, or at most that
-times-low : (i j x y u : ℕ) → i * u ≤ j * y → i * (x * u) ≤ j * (x * y)
-times-low i j x y u h =
-    le-trans (le-of-eq (mul-left-comm i x u)) (le-trans (mul-le-mul-left x h) (le-of-eq (mul-left-comm x j y)))
-
-times-high : (i j x y u : ℕ) → j * y ≤ i * u → j * (x * y) ≤ i * (x * u)
-times-high i j x y u h =
-    le-trans (le-of-eq (mul-left-comm j x y)) (le-trans (mul-le-mul-left x h) (le-of-eq (mul-left-comm x i u)))
-
-spread : (j a b c u : ℕ) → j * (a * c + b * u) ≡ a * j * c + b * j * u
-spread j a b c u =
-    mul-add j (a * c) (b * u)
-    ∙ ap₂ (λ (m n : ℕ). m + n) (mul-left-comm j a c ∙ sym (mul-assoc a j c)) (mul-left-comm j b u ∙ sym (mul-assoc b j u))
-
--- what x * y, rounded, is to x in units of u: for a y that is i / j or more, and for one that is at most that
-module _ (i j x y z u : ℕ) (P : 0 < u) where
-  product-low : i * u ≤ j * y → x * y * 2 ^ 53 ≤ z * u * 2 ^ 53 + x * y + 2 ^ 52 * u → 999 * i * x ≤ 1000 * j * z + 500 * j
-  product-low f c =
-      cancel (999 * i) (1000 * j) (500 * j) x z u P
-      (le-trans (le-of-eq (mul-assoc 999 i (x * u)))
-      (le-trans (mul-le-mul-left 999 (times-low i j x y u f))
-      (le-trans (le-of-eq (mul-left-comm 999 j (x * y)))
-      (le-trans (mul-le-mul-left j (at-least (x * y) (z * u) u c)) (le-of-eq (spread j 1000 500 (z * u) u))))))
-
-  product-high : j * y ≤ i * u → z * u * 2 ^ 53 ≤ x * y * 2 ^ 53 + x * y + 2 ^ 52 * u → 10000 * j * z ≤ 10001 * i * x + 5001 * j
-  product-high f c =
-      cancel (10000 * j) (10001 * i) (5001 * j) z x u P
-      (le-trans (le-of-eq (mul-assoc 10000 j (z * u) ∙ mul-left-comm 10000 j (z * u)))
-      (le-trans (mul-le-mul-left j (at-most-finely (x * y) (z * u) u c))
-      (le-trans (le-of-eq (spread j 10001 5001 (x * y) u))
-      (add-le-add
-      (le-trans (le-of-eq (mul-assoc 10001 j (x * y)))
-      (le-trans (mul-le-mul-left 10001 (times-high i j x y u f)) (le-of-eq (sym (mul-assoc 10001 i (x * u))))))
-      (le-refl (5001 * j * u))))))
+-- z is x * y, rounded, in units of u, for a y that is i / j or more: what it is to x
+product-low : (i j x y z u : ℕ) → 0 < u → i * u ≤ j * y → x * y * 2 ^ 53 ≤ z * u * 2 ^ 53 + x * y + 2 ^ 52 * u
+    → 999 * i * x ≤ 1000 * j * z + 500 * j
+product-low i j x y z u P f c =
+    cancel (999 * i) (1000 * j) (500 * j) x z u P
+    (le-trans (le-of-eq (mul-assoc 999 i (x * u)))
+    (le-trans (mul-le-mul-left 999 (le-trans (le-of-eq (mul-left-comm i x u)) (mul-le-mul-left x f)))
+    (le-trans (le-of-eq (ap (λ (n : ℕ). 999 * n) (mul-left-comm x j y) ∙ mul-left-comm 999 j (x * y)))
+    (le-trans (mul-le-mul-left j (at-least (x * y) (z * u) u c)) (le-of-eq spread)))))
+  where
+    spread : j * (1000 * (z * u) + 500 * u) ≡ 1000 * j * (z * u) + 500 * j * u
+    spread =
+        mul-add j (1000 * (z * u)) (500 * u)
+        ∙ ap₂ (λ (m n : ℕ). m + n) (mul-left-comm j 1000 (z * u) ∙ sym (mul-assoc 1000 j (z * u)))
+        (mul-left-comm j 500 u ∙ sym (mul-assoc 500 j u))
 
 -- ---- a scale derived from a largest magnitude of g units
 pub record Derived (g : ℕ) (s : Float) : Type 0 where
@@ -124,7 +102,6 @@ pub record Derived (g : ℕ) (s : Float) : Type 0 where
   pub top : magUnits s ≤ 2 ^ 2060
   pub keeps : 32 ≤ magUnits s → 10 * g ≤ 159 * magUnits s
   pub large : 2 ^ 20 ≤ g → 32 ≤ magUnits s
-  pub under : 1000 * magUnits s ≤ 323 * g + 2000
 
 -- ALPHA * m, then times n, then over the root of 24
 module _ (m n : Float) (p : Plain m) (L : magUnits m ≤ magUnits limit64) (q : Norm n) where
@@ -165,9 +142,6 @@ module _ (m n : Float) (p : Plain m) (L : magUnits m ≤ magUnits limit64) (q : 
   first-low : 999 * 3217 * magUnits m ≤ 1000 * 10000 * magUnits first + 500 * 10000
   first-low = product-low 3217 10000 (magUnits m) (magUnits alpha64) (magUnits first) U (pow-pos 1074) (alpha-is .lo) (first-is .lo)
 
-  first-up : 10000 * 10000 * magUnits first ≤ 10001 * 3219 * magUnits m + 5001 * 10000
-  first-up = product-high 3219 10000 (magUnits m) (magUnits alpha64) (magUnits first) U (pow-pos 1074) (alpha-is .hi) (first-is .hi)
-
   first-high : magUnits first ≤ 2 ^ 2042
   first-high =
       let room : 2 * 2 ^ 2040 + 1 ≤ 2 ^ 2042 = lit≤ tt in
@@ -185,9 +159,6 @@ module _ (m n : Float) (p : Plain m) (L : magUnits m ≤ magUnits limit64) (q : 
 
   second-low : 999 * 999 * magUnits first ≤ 1000 * 1000 * magUnits second + 500 * 1000
   second-low = product-low 999 1000 (magUnits first) (magUnits n) (magUnits second) U (pow-pos 1074) (q .low) (second-is .lo)
-
-  second-up : 10000 * 32 * magUnits second ≤ 10001 * 157 * magUnits first + 5001 * 32
-  second-up = product-high 157 32 (magUnits first) (magUnits n) (magUnits second) U (pow-pos 1074) (q .high) (second-is .hi)
 
   second-high : magUnits second ≤ 2 ^ 2048
   second-high =
@@ -217,7 +188,9 @@ module _ (m n : Float) (p : Plain m) (L : magUnits m ≤ magUnits limit64) (q : 
   scale-low =
       cancel 999 4900 2450 (magUnits second) (magUnits scale) U (pow-pos 1074)
       (go (magUnits second * U) (magUnits scale * magUnits root24) (magUnits scale * U) (magUnits root24) U
-      (times-high 4899 1000 (magUnits scale) (magUnits root24) U (root24-const .hi)) (root24-const .hi)
+      (le-trans (le-of-eq (mul-left-comm 1000 (magUnits scale) (magUnits root24)))
+      (le-trans (mul-le-mul-left (magUnits scale) (root24-const .hi)) (le-of-eq (mul-left-comm (magUnits scale) 4899 U))))
+      (root24-const .hi)
       (at-least (magUnits second * U) (magUnits scale * magUnits root24) (magUnits root24) (scale-is .lo)))
     where
       go : (a sr su r u : ℕ) → 1000 * sr ≤ 4899 * su → 1000 * r ≤ 4899 * u → 999 * a ≤ 1000 * sr + 500 * r → 999 * a ≤ 4900 * su + 2450 * u
@@ -232,16 +205,6 @@ module _ (m n : Float) (p : Plain m) (L : magUnits m ≤ magUnits limit64) (q : 
       (add-le-add (mul-le-mul-left 2 (mul-le-mul-left (magUnits second) root-ge)) (le-of-eq (sym (one-mul (magUnits root24)))))))
       (le-trans (add-le-add (mul-le-mul-left 2 second-high) (le-refl 1)) room)
 
-  scale-up : 10000 * magUnits scale ≤ 2043 * magUnits second + 5001
-  scale-up =
-      cancel 10000 2043 5001 (magUnits scale) (magUnits second) (magUnits root24) (lt-of-lt-of-le (pow-pos 1074) root-ge)
-      (go (magUnits second * U) (magUnits second * magUnits root24) (magUnits scale * magUnits root24) (magUnits root24)
-      (times-low 4898 1000 (magUnits second) (magUnits root24) U (root24-const .lo))
-      (at-most-finely (magUnits second * U) (magUnits scale * magUnits root24) (magUnits root24) (scale-is .hi)))
-    where
-      go : (a pr sr r : ℕ) → 4898 * a ≤ 1000 * pr → 10000 * sr ≤ 10001 * a + 5001 * r → 10000 * sr ≤ 2043 * pr + 5001 * r
-      go a pr sr r h k = omega arith
-
   pub derived : Derived (magUnits m) (scaleWith m n)
   derived =
       let room : 2 ^ 2050 ≤ 2 ^ 2060 = lit≤ tt in
@@ -250,7 +213,6 @@ module _ (m n : Float) (p : Plain m) (L : magUnits m ≤ magUnits limit64) (q : 
         top = le-trans scale-high room;
         keeps = keeps (magUnits m) (magUnits first) (magUnits second) (magUnits scale) first-low second-low scale-low;
         large = large (magUnits m) (magUnits first) (magUnits second) (magUnits scale) first-low second-low scale-low;
-        under = under (magUnits m) (magUnits first) (magUnits second) (magUnits scale) first-up second-up scale-up;
       }
     where
       keeps : (m a b s : ℕ) → 999 * 3217 * m ≤ 1000 * 10000 * a + 500 * 10000 → 999 * 999 * a ≤ 1000 * 1000 * b + 500 * 1000
@@ -260,10 +222,6 @@ module _ (m n : Float) (p : Plain m) (L : magUnits m ≤ magUnits limit64) (q : 
       large : (m a b s : ℕ) → 999 * 3217 * m ≤ 1000 * 10000 * a + 500 * 10000 → 999 * 999 * a ≤ 1000 * 1000 * b + 500 * 1000
           → 999 * b ≤ 4900 * s + 2450 → 2 ^ 20 ≤ m → 32 ≤ s
       large m a b s x y z h = omega arith
-
-      under : (m a b s : ℕ) → 10000 * 10000 * a ≤ 10001 * 3219 * m + 5001 * 10000 → 10000 * 32 * b ≤ 10001 * 157 * a + 5001 * 32
-          → 10000 * s ≤ 2043 * b + 5001 → 1000 * s ≤ 323 * m + 2000
-      under m a b s x y z = omega arith
 
 -- ---- the second scale is no smaller
 pub record Kept (g : ℕ) (s : Float) : Type 0 where
