@@ -5,7 +5,18 @@
 use mathlib.Core.Path.{_≡_, refl, sym, ap, _∙_, subst}
 use mathlib.Core.Bool.{Bool, true, false, cond}
 use Prim.Native.Nat.{ℕ, zero, suc, _+_, _*_, _≤_, _<_}
-use native.Mathlib.Nat.{le-trans, le-of-eq, lt-of-lt-of-le, lt-of-le-of-lt, add-mul, mul-le-mul-right, lt-of-mul-lt-mul-right, mul-one, zero-mul}
+use native.Mathlib.Nat.{
+  le-trans,
+  le-of-eq,
+  lt-of-lt-of-le,
+  lt-of-le-of-lt,
+  not-le-of-lt,
+  add-mul,
+  mul-le-mul-right,
+  lt-of-mul-lt-mul-right,
+  mul-one,
+  zero-mul,
+}
 use native.Mathlib.Omega.{arith}
 use lib.Dec.{T}
 use lib.IntN.{pos, negsuc}
@@ -146,28 +157,30 @@ abs-exactly (fin s (suc m) (negsuc k)) f i = record { fit = f; fin = tt; sign = 
 
 -- the test |x| > l, for an l that is not negative
 module _ (l x : Float) (fl : T (fits binary64 l)) (il : T (finite l)) (sl : isMinus l ≡ false) (fx : T (fits binary64 x)) (ix : T (finite x)) where
+  pub abs-over : T (lt l (absOf x)) → magUnits l < magUnits x
+  abs-over t =
+      let a = abs-exactly x fx ix in
+      let p = parts l false sl in
+      let q = parts (absOf x) false (a .sign) in
+      go (posUnits l) (negUnits l) (posUnits (absOf x)) (negUnits (absOf x)) (p .0) (p .1) (q .0 ∙ a .mag) (q .1)
+      (lt-is l (absOf x) fl (a .fit) il (a .fin) t)
+    where
+      go : (pl nl px nx : ℕ) → pl ≡ magUnits l → nl ≡ 0 → px ≡ magUnits x → nx ≡ 0 → pl + nx < px + nl → magUnits l < magUnits x
+      go pl nl px nx a b c d h = omega arith
+
   pub abs-upto : lt l (absOf x) ≡ false → magUnits x ≤ magUnits l
   abs-upto h =
       let a = abs-exactly x fx ix in
       let p = parts l false sl in
       let q = parts (absOf x) false (a .sign) in
-      go (posUnits l) (negUnits l) (posUnits (absOf x)) (negUnits (absOf x)) (magUnits l) (magUnits (absOf x)) (magUnits x)
-      (p .0) (p .1) (q .0) (q .1) (a .mag) (not-lt-is l (absOf x) fl (a .fit) il (a .fin) h)
+      go (posUnits l) (negUnits l) (posUnits (absOf x)) (negUnits (absOf x)) (p .0) (p .1) (q .0 ∙ a .mag) (q .1)
+      (not-lt-is l (absOf x) fl (a .fit) il (a .fin) h)
     where
-      go : (pl nl px nx ml mx m : ℕ) → pl ≡ ml → nl ≡ 0 → px ≡ mx → nx ≡ 0 → mx ≡ m → px + nl ≤ pl + nx → m ≤ ml
-      go pl nl px nx ml mx m a b c d e h = omega arith
+      go : (pl nl px nx : ℕ) → pl ≡ magUnits l → nl ≡ 0 → px ≡ magUnits x → nx ≡ 0 → px + nl ≤ pl + nx → magUnits x ≤ magUnits l
+      go pl nl px nx a b c d h = omega arith
 
   pub upto-abs : magUnits x ≤ magUnits l → lt l (absOf x) ≡ false
-  upto-abs h =
-      let a = abs-exactly x fx ix in
-      let p = parts l false sl in
-      let q = parts (absOf x) false (a .sign) in
-      is-false (lt l (absOf x))
-      (λ t. go (posUnits l) (negUnits l) (posUnits (absOf x)) (negUnits (absOf x)) (magUnits l) (magUnits (absOf x)) (magUnits x)
-      (p .0) (p .1) (q .0) (q .1) (a .mag) h (lt-is l (absOf x) fl (a .fit) il (a .fin) t))
-    where
-      go : (pl nl px nx ml mx m : ℕ) → pl ≡ ml → nl ≡ 0 → px ≡ mx → nx ≡ 0 → mx ≡ m → m ≤ ml → pl + nx < px + nl → ⊥
-      go pl nl px nx ml mx m a b c d e h k = omega arith
+  upto-abs h = is-false (lt l (absOf x)) (λ t. not-le-of-lt (abs-over t) h)
 
 pub near-abs : {c : ℕ} {x : Float} {p n e : ℕ} → Near c x p n e → Near c (absOf x) (gap p n) 0 e
 near-abs {c} {x} {p} {n} {e} a =
