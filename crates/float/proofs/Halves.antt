@@ -134,9 +134,12 @@ module _ (c : Float) (f : T (fits binary64 c)) (r : Ranged c) where
   unfolding roundAway halfUp
   away-plain t = go (isMinus c) (magUnits c) (small-plain t .plain)
     where
-      go : (s : Bool) (g : ℕ) → cond s g 0 ≡ 0 → cond s (negℤ (pos ((g * 2 + U) / (U * 2)))) (pos ((g * 2 + U) / (U * 2))) ≡ pos ((g * 2 + U) / (U * 2))
+      near : ℕ → ℕ
+      near g = (g * 2 + U) / (U * 2)
+
+      go : (s : Bool) (g : ℕ) → cond s g 0 ≡ 0 → cond s (negℤ (pos (near g))) (pos (near g)) ≡ pos (near g)
       go false g h = refl
-      go true g h = ap (λ (k : ℕ). negℤ (pos ((k * 2 + U) / (U * 2)))) h ∙ ap (λ (k : ℕ). pos ((k * 2 + U) / (U * 2))) (sym h)
+      go true g h = ap (λ (k : ℕ). negℤ (pos (near k))) h ∙ ap (λ (k : ℕ). pos (near k)) (sym h)
 
   -- neither: a NaN
   pub away-nan : lt c zero64 ≡ false → le zero64 c ≡ false → pos 0 ≡ roundAway c

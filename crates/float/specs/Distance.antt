@@ -21,7 +21,8 @@ sqDist (y ∷ ys) (t ∷ ts) = coordGap y t * coordGap y t + sqDist ys ts
 abbrev pub margin : ℕ
 margin = 2 ^ 2128
 
--- ---- the same in doubles: (v - t) * (v - t) with v = y as f64, each operation rounded, summed from +0.0 and from left to right
+-- ---- the same in doubles, as `dist_to` of encoder.rs: (v - t) * (v - t) with v = y as f64, each operation rounded, summed from +0.0 and
+-- from left to right
 abbrev pub sqDiff : Float → Float → Float
 sqDiff v t = mul binary64 (sub binary64 v t) (sub binary64 v t)
 

@@ -1,6 +1,6 @@
 -- What the search at one scale is asked for: the 24 quotients of an accepted call, which are finite doubles of at most a million in size.
 -- Assumes nothing.
-use mathlib.Core.Path.{_≡_, refl, sym, _∙_, subst}
+use mathlib.Core.Path.{_≡_, sym, _∙_, subst}
 use mathlib.Core.Bool.{false}
 use mathlib.Core.List.{List}
 use Prim.Native.Nat.{ℕ, _+_, _*_, _≤_, _<_, zero-le}
@@ -18,6 +18,7 @@ use Rattle.float.specs.Calls.{absOf, million64, quotientsOf}
 use Rattle.float.specs.Laws.Exact.{parts, zero-fits, zero-mag}
 use Rattle.float.specs.Laws.Compare.{lt-is, not-lt-is}
 use Rattle.float.specs.Laws.Near.{abs-exactly}
+use Rattle.float.specs.Laws.Rounding.{million-units, million-fits}
 use Rattle.float.specs.Laws.Arrays.{quotients-length, quotients-at}
 use Rattle.nearest.specs.Accepted.{quotient-finite}
 use Rattle.nearest.specs.Accepted as call
@@ -29,14 +30,6 @@ pub record Accepted (t : List Float) : Type 0 where
   pub low : (j : ℕ) → j < 24 → magUnits (getD t j nan) ≤ 1000000 * U
 
 -- ---- the size, as the test of a call has it: not above 1e6 in magnitude
-million-units : magUnits million64 ≡ 1000000 * U
-unfolding magUnits
-million-units = refl
-
-million-fits : T (fits binary64 million64)
-unfolding fits
-million-fits = tt
-
 pub not-above : (q : Float) → T (fits binary64 q) → T (finite q) → lt million64 (absOf q) ≡ false → magUnits q ≤ 1000000 * U
 not-above q f i h =
     let a = abs-exactly q f i in

@@ -12,11 +12,9 @@ use native.Mathlib.Nat.{
   eq-or-lt-of-le,
   eq-zero-or-pos,
   zero-add,
-  mul-assoc,
   mul-lt-mul-of-pos-right,
   le-div-iff-mul-le,
   mul-div-cancel,
-  sub-add-cancel,
   pow-suc,
 }
 use native.Mathlib.Omega.{arith}
@@ -29,6 +27,7 @@ use lib.Ieee.Exact.{HasValue, odd-sign}
 use lib.Ieee.Fits.{kept-lt}
 use Rattle.float.specs.Value.{U, magUnits}
 use Rattle.float.specs.Laws.Exact.{Exactly, exactly, digits, mag-lt, bitsOf, bits-are}
+use Rattle.root.specs.Laws.{multiple}
 use Rattle.root.specs.Inner.{Above, Apart}
 
 -- ---- from bits to units
@@ -52,8 +51,7 @@ exact-cut g m j e h =
     (size-le g (53 + j)
     (subst (λ (z : ℕ). z < 2 ^ (53 + j)) (sym e) (lt-of-lt-of-le (mul-lt-mul-of-pos-right h (pow-pos j)) (le-of-eq (sym (pow-add 2 53 j)))))) in
     let r = m * 2 ^ (j - k) in
-    let g-is : g ≡ r * 2 ^ k =
-    e ∙ ap (λ (z : ℕ). m * 2 ^ z) (sym (sub-add-cancel k-le)) ∙ ap (λ (z : ℕ). m * z) (pow-add 2 (j - k) k) ∙ sym (mul-assoc m (2 ^ (j - k)) (2 ^ k)) in
+    let g-is : g ≡ r * 2 ^ k = e ∙ multiple m j k k-le in
     ap (λ (z : ℕ). z / 2 ^ k * 2 ^ k) g-is ∙ ap (λ (z : ℕ). z * 2 ^ k) (mul-div-cancel r (pow-pos k)) ∙ sym g-is
   where
     spare : (z : ℕ) → z ≤ 53 + j → z - 53 ≤ j

@@ -23,7 +23,9 @@ pub even-odd : (m k : ℕ) → m < 2 ^ 53 → k % 2 ≡ 1 → Even m k (m * 2) (
 even-odd m k h o =
     let s : k ≡ k - 1 + 1 = omega arith in
     record {
-      same = mul-assoc m 2 (2 ^ (k - 1)) ∙ ap (λ (z : ℕ). m * z) (mul-comm 2 (2 ^ (k - 1)) ∙ sym (pow-add 2 (k - 1) 1) ∙ ap (λ (z : ℕ). 2 ^ z) (sym s));
+      same =
+          mul-assoc m 2 (2 ^ (k - 1))
+          ∙ ap (λ (z : ℕ). m * z) (mul-comm 2 (2 ^ (k - 1)) ∙ sym (pow-add 2 (k - 1) 1) ∙ ap (λ (z : ℕ). 2 ^ z) (sym s));
       small = omega arith;
       even = omega arith;
       k-le = omega arith;

@@ -3,7 +3,7 @@ use mathlib.Core.Path.{_≡_, refl, sym, ap, _∙_, subst}
 use mathlib.Core.Bool.{Bool, true, false, cond, not, true≢false}
 use mathlib.Core.Logic.{inl, inr}
 use Prim.Native.Nat.{ℕ, zero, suc, _+_, _-_, _*_, _/_, _^_, _≤_, _<_}
-use native.Mathlib.Nat.{lt-irrefl, zero-lt-suc, add-mul, mul-add, mul-assoc, mul-comm, mul-left-comm, zero-mul}
+use native.Mathlib.Nat.{lt-irrefl, zero-lt-suc, mul-assoc, mul-comm, mul-left-comm, zero-mul}
 use native.Mathlib.Omega.{arith}
 use borrow.Author.Tests.{lt-ltb, le-ltb}
 use lib.Dec.{T}
@@ -16,15 +16,15 @@ use Rattle.float.specs.Value.{U, magUnits, zero64}
 use Rattle.float.specs.Laws.Exact.{Exactly, no-nan, no-digits, some-digits, zero-fits, zero-mag}
 use Rattle.float.specs.Laws.Compare.{is-lt, zero-lt, eq-zero, zero-eq}
 use Rattle.root.specs.Root.{NearestRoot, nearer, rootOf, rooted, noRoot}
-use Rattle.root.specs.Nearest.{Floor, floor-lt, nearer-full, nearer-top, nearest-of, nearest-unique, root-nearest}
+use Rattle.root.specs.Nearest.{nearest-unique, root-nearest}
+use Rattle.root.specs.Laws.{Floor, sq-next, floor-lt, nearer-full, nearer-top, nearest-of}
 use Rattle.root.specs.Inner.{Above, Apart, Even, Raised, IsRoot, Picked}
 use Rattle.root.proofs.Bits.{made}
 
 -- ---- the whole root, and the number that is picked
 floor-of : {n root rem : ℕ} → IsRoot n root rem → Floor n root
 floor-of {n} {root} {rem} i =
-    let a : (root + 1) * (root + 1) ≡ root * (root + 1) + 1 * (root + 1) = add-mul root 1 (root + 1) in
-    let b : root * (root + 1) ≡ root * root + root * 1 = mul-add root root 1 in
+    let a = sq-next root in
     record { low = omega (arith, i .sum); high = omega (arith, i .sum, i .low) }
 
 picked-is : {n root rem r : ℕ} → IsRoot n root rem → Picked root rem r → r ≡ nearer root n
@@ -111,7 +111,8 @@ module _ {x : Float} {m k m' k' n h root rem r : ℕ} (p : Apart x m k) (e : Eve
 
   pub bits-no-nan : T (not (nanBits binary64 (place * 2 ^ 52 + r)))
   bits-no-nan =
-      subst (λ (z : Bool). T (not z)) (sym (nanBits-is binary64 (place * 2 ^ 52 + r))) (no-nan (ofBits binary64 (place * 2 ^ 52 + r)) (last-made .fin))
+      let b = place * 2 ^ 52 + r in
+      subst (λ (z : Bool). T (not z)) (sym (nanBits-is binary64 b)) (no-nan (ofBits binary64 b) (last-made .fin))
 
 -- ---- every double
 pub above-of : (x : Float) → T (fits binary64 x) → lt zero64 x ≡ true → lt x (inf false) ≡ true → Above x

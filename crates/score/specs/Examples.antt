@@ -89,12 +89,12 @@ all-zero = refl
 
 -- ---- 1.0 alone has the scale 0.3218 over the root of 24; the least double is divided by itself first
 one-scale : choiceOf (one64 ∷ []) ≡ Scale (ofBits binary64 0x3fb0_d0df_80bd_b263)
-unfolding choiceOf lowerScale largestFrom absOf lt eq le unitNorm root24 products quotientsOf sumFrom mul add sum div round size rooted rootOf rootUnits wholeRoot magUnits ofBits
-one-scale = refl
+unfolding choiceOf lowerScale largestFrom absOf lt eq le unitNorm root24 products quotientsOf sumFrom ofBits
+one-scale = unfold mul add sum div round size rooted rootOf rootUnits wholeRoot magUnits in refl
 
 least-divided : choiceOf (ofBits binary64 1 ∷ []) ≡ Divide (ofBits binary64 1) (ofBits binary64 0x3fb0_d0df_80bd_b263)
-unfolding choiceOf lowerScale largestFrom absOf lt eq le unitNorm root24 products quotientsOf sumFrom mul add sum div round size rooted rootOf rootUnits wholeRoot magUnits ofBits
-least-divided = refl
+unfolding choiceOf lowerScale largestFrom absOf lt eq le unitNorm root24 products quotientsOf sumFrom ofBits
+least-divided = unfold mul add sum div round size rooted rootOf rootUnits wholeRoot magUnits in refl
 
 -- ---- what the theorem on quotients asks can be met: of one sample, 1.0
 one-fits : AllFit (one64 ∷ [])
@@ -107,7 +107,9 @@ unfolding sampleNumber some absOf lt
 one-accepted = refl
 
 one-keeps : KeepsBoth (one64 ∷ []) (choiceOf (one64 ∷ []))
-one-keeps = choice-keeps (one64 ∷ []) one-fits (lit≤ tt) one-accepted (λ h. some-units (zero-choice (one64 ∷ []) one-fits one-accepted h 0 (lit≤ tt)))
+one-keeps =
+    choice-keeps (one64 ∷ []) one-fits (lit≤ tt) one-accepted
+    (λ h. some-units (zero-choice (one64 ∷ []) one-fits one-accepted h 0 (lit≤ tt)))
   where
     some-units : magUnits one64 ≡ 0 → ⊥
     some-units e = lt-irrefl 0 (subst (λ (z : ℕ). 0 < z) e (some-digits false 0 (pos 0)))

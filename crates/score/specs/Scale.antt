@@ -34,7 +34,7 @@ abbrev pub leastNormal64 : Float
 leastNormal64 = fin false 1 (negsuc 1021)
 
 -- ---- lower_scale
--- f64::max, of two numbers of which neither is a NaN
+-- f64::max, for an a that is no NaN; where b is one, it is a
 abbrev pub larger : Float → Float → Float
 larger a b = cond (lt a b) b a
 

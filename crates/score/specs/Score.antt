@@ -17,7 +17,7 @@ products [] ys = []
 products (x ∷ xs) [] = []
 products (x ∷ xs) (y ∷ ys) = mul binary64 x y ∷ products xs ys
 
--- their sum, from +0.0 and from left to right
+-- their sum, from +0.0 and from left to right: the Rust's sum of a * b as f64
 abbrev pub dotOf : List Float → List Float → Float
 dotOf xs ys = sumOf (products xs ys)
 
@@ -26,7 +26,7 @@ unfoldable pub doublesOf : List ℤ → List Float
 doublesOf [] = []
 doublesOf (y ∷ ys) = ofInt binary64 y ∷ doublesOf ys
 
--- x·y over the root of y·y; minus infinity where y is the origin
+-- x·y over the root of y·y, minus infinity where y is the origin: the Rust's dot / nn.sqrt() where nn > 0.0
 abbrev pub scoreOf : Float → Float → Float
 scoreOf dot nn = cond (lt zero64 nn) (div binary64 dot (rooted nn .root)) (inf true)
 

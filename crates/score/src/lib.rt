@@ -140,17 +140,14 @@ pub fn score(samples: [f64; 24], point: [i32; 24]) -> f64
 pub fn t_of(samples: [f64; 24], point: [i32; 24]) -> Scored
     ensures { λ r. ⌜ r ≡ scored samples point ⌝ }
 {
-    let n = sample_number(samples);
-    if n == 0 {
+    let number = sample_number(samples);
+    if number == 0 {
         return Scored {
             number: 0,
             score: score(samples, point),
         };
     }
-    Scored {
-        number: n,
-        score: 0.0,
-    }
+    Scored { number, score: 0.0 }
 }
 
 // ---- the scale

@@ -12,7 +12,6 @@ use native.Mathlib.Nat.{
   lt-of-le-of-lt,
   lt-irrefl,
   zero-lt-suc,
-  add-comm,
   add-mul,
   mul-add,
   mul-sub,
@@ -21,7 +20,6 @@ use native.Mathlib.Nat.{
   mul-left-comm,
   mul-mul-mul-comm,
   mul-one,
-  zero-mul,
   mul-pos,
   mul-le-mul,
   mul-le-mul-left,
@@ -41,16 +39,16 @@ use Rattle.float.specs.Value.{U, magUnits, isMinus, posUnits, negUnits, 
 use Rattle.float.specs.Laws.Exact.{
   has-value,
   no-digits,
-  scaled,
+  add-scaled,
   neg-mag,
   parts,
-  mag-parts,
   unlike-false,
+  unlike-same,
   digits,
   mag-lt,
   round-exactly,
 }
-use Rattle.float.specs.Laws.Compare.{le-is}
+use Rattle.float.specs.Laws.Compare.{num-x, num-y, common-pos, le-is}
 use Rattle.float.specs.Laws.Error.{halfUlp, Rounded, round-grid, round-units, rounded-cancel}
 use Rattle.float.specs.Laws.Near.{Near, near-more, near-parts, near-scale, near-neg, near-mag-plain, mag-near-plain, rounded-near, near-signed}
 
@@ -61,7 +59,7 @@ sub-mul i j l = mul-comm (i - j) l ∙ mul-sub l i j ∙ ap₂ (λ (m n : ℕ). 
 -- ±a / c and ±b / c, which are x and y units, added
 module _ (a b c x y k : ℕ) (C : 0 < c) (p : a * U ≡ x * c) (q : b * U ≡ y * c) (K : k ≤ 1023) (h : x + y < 2 ^ (k + 1074)) where
   joined : (a + b) * U ≡ (x + y) * c
-  joined = add-mul a b U ∙ ap₂ (λ (i j : ℕ). i + j) p q ∙ sym (add-mul x y c)
+  joined = add-scaled a b U x y c p q
 
   less : (a - b) * U ≡ (x - y) * c
   less = sub-mul a b U ∙ ap₂ (λ (i j : ℕ). i - j) p q ∙ sym (sub-mul x y c)
@@ -72,9 +70,8 @@ module _ (a b c x y k : ℕ) (C : 0 < c) (p : a * U ≡ x * c) (q : b * U ≡ y 
   -- the numerator n, which is v units, rounded with the sign r
   one : (r : Bool) (n v : ℕ) → n * U ≡ v * c → v ≤ x + y → Near 1 (round binary64 r n c) (cond r 0 v) (cond r v 0) (halfUlp k)
   one r n v e l =
-      near-more (halfUlp k)
-      (rounded-near (round-units r n c v 1 k C (mul-one (n * U) ∙ e) (lt-of-lt-of-le (lt-of-le-of-lt l h) (le-of-eq (sym (mul-one (2 ^ (k + 1074)))))) K))
-      (le-of-eq (mul-one (halfUlp k)))
+      let small : v < 2 ^ (k + 1074) * 1 = lt-of-lt-of-le (lt-of-le-of-lt l h) (le-of-eq (sym (mul-one (2 ^ (k + 1074))))) in
+      near-more (halfUlp k) (rounded-near (round-units r n c v 1 k C (mul-one (n * U) ∙ e) small K)) (le-of-eq (mul-one (halfUlp k)))
 
   y-less : b ≤ a → y ≤ x
   y-less l = le-of-mul-le-mul-right (le-trans (le-of-eq (sym q)) (le-trans (mul-le-mul-right U l) (le-of-eq p))) C
@@ -119,10 +116,8 @@ add-near (fin s m e) (inf t) b fx fy ix iy B h = absurd iy
 add-near (fin s m e) (fin t n d) b fx fy ix iy B h =
     let x = fin s m e in
     let y = fin t n d in
-    sum-near (m * up e * down d) (n * up d * down e) (down e * down d) (magUnits x) (magUnits y) b (mul-pos (down-pos e) (down-pos d))
-    (scaled (m * up e) U (magUnits x) (down e) (down d) (has-value x fx tt .1))
-    (scaled (n * up d) U (magUnits y) (down d) (down e) (has-value y fy tt .1) ∙ ap (λ (z : ℕ). magUnits y * z) (mul-comm (down d) (down e)))
-    B h s t
+    sum-near (m * up e * down d) (n * up d * down e) (down e * down d) (magUnits x) (magUnits y) b (common-pos e d)
+    (num-x s m e t n d fx fy) (num-y s m e t n d fx fy) B h s t
 
 pub near-add : {c : ℕ} {x y : Float} {p n e q m f : ℕ} (b : ℕ) → Near c x p n e → Near c y q m f → b ≤ 1023
     → magUnits x + magUnits y < 2 ^ (b + 1074) → Near c (add binary64 x y) (p + q) (n + m) (e + f + halfUlp b * c)
@@ -207,74 +202,6 @@ div-fraction (fin s m e) (fin t (suc n) d) fx fy ix iy p =
       same = quotient (m * up e) (suc n * up d) U (magUnits x) (magUnits y) (down e) (down d) (has-value x fx tt .1) (has-value y fy tt .1);
     }
 
--- ---- x * y of values near p - n and q - m: near (p - n) * (q - m), in units of 2 ^ -2148
--- a * y where y is at most w + f
-mul-step : (a y w f : ℕ) → y ≤ w + f → a * y ≤ a * w + a * f
-mul-step a y w f h = le-trans (mul-le-mul-left a h) (le-of-eq (mul-add a w f))
-
--- (px - nx) * (py - ny) against (p - n) * (q - m)
-cross : (px nx py ny p n q m e f : ℕ) → px + n ≤ p + nx + e → p + nx ≤ px + n + e → py + m ≤ q + ny + f → q + ny ≤ py + m + f
-    → (px * py + nx * ny) + (p * m + n * q) ≤ (px * ny + nx * py) + (p * q + n * m) + ((px + nx) * f + (q + m) * e)
-cross px nx py ny p n q m e f a b c d =
-    let i : px * (py + m) ≤ px * (q + ny) + px * f = mul-step px (py + m) (q + ny) f c in
-    let j : nx * (q + ny) ≤ nx * (py + m) + nx * f = mul-step nx (q + ny) (py + m) f d in
-    let k : q * (px + n) ≤ q * (p + nx) + q * e = mul-step q (px + n) (p + nx) e a in
-    let l : m * (p + nx) ≤ m * (px + n) + m * e = mul-step m (p + nx) (px + n) e b in
-    let i1 : px * (py + m) ≡ px * py + px * m = mul-add px py m in
-    let i2 : px * (q + ny) ≡ px * q + px * ny = mul-add px q ny in
-    let j1 : nx * (q + ny) ≡ nx * q + nx * ny = mul-add nx q ny in
-    let j2 : nx * (py + m) ≡ nx * py + nx * m = mul-add nx py m in
-    let k1 : q * (px + n) ≡ px * q + n * q = mul-comm q (px + n) ∙ add-mul px n q in
-    let k2 : q * (p + nx) ≡ p * q + nx * q = mul-comm q (p + nx) ∙ add-mul p nx q in
-    let l1 : m * (p + nx) ≡ p * m + nx * m = mul-comm m (p + nx) ∙ add-mul p nx m in
-    let l2 : m * (px + n) ≡ px * m + n * m = mul-comm m (px + n) ∙ add-mul px n m in
-    let f1 : (px + nx) * f ≡ px * f + nx * f = add-mul px nx f in
-    let e1 : (q + m) * e ≡ q * e + m * e = add-mul q m e in
-    omega arith
-
--- the product of the magnitudes, by the signs, is the product of the values
-signs : (s t : Bool) (g h : ℕ) → cond (unlike s t) 0 (g * h) + (cond s 0 g * cond t h 0 + cond s g 0 * cond t 0 h)
-    ≡ cond s 0 g * cond t 0 h + cond s g 0 * cond t h 0 + cond (unlike s t) (g * h) 0
-signs false false g h = let a : g * 0 ≡ 0 = mul-comm g 0 ∙ zero-mul g in omega arith
-signs false true g h = let a : g * 0 ≡ 0 = mul-comm g 0 ∙ zero-mul g in omega arith
-signs true false g h = let a : g * 0 ≡ 0 = mul-comm g 0 ∙ zero-mul g in omega arith
-signs true true g h = let a : g * 0 ≡ 0 = mul-comm g 0 ∙ zero-mul g in omega arith
-
-pub near-mul : {x y : Float} {p n e q m f : ℕ} (b : ℕ) → Near 1 x p n e → Near 1 y q m f → b ≤ 1023
-    → magUnits x * magUnits y < 2 ^ (b + 1074) * U
-    → Near U (mul binary64 x y) (p * q + n * m) (p * m + n * q) (magUnits x * f + (q + m) * e + halfUlp b * U)
-near-mul {x} {y} {p} {n} {e} {q} {m} {f} b u w B h =
-    let z = mul binary64 x y in
-    let r : Near U z (posUnits x * posUnits y + negUnits x * negUnits y) (posUnits x * negUnits y + negUnits x * posUnits y) (halfUlp b * U) =
-    near-parts (posUnits x * posUnits y + negUnits x * negUnits y) (posUnits x * negUnits y + negUnits x * posUnits y)
-    (rounded-near (mul-rounded x y b (u .fit) (w .fit) (u .fin) (w .fin) B h)) (signs (isMinus x) (isMinus y) (magUnits x) (magUnits y)) in
-    let x-hi : posUnits x + n ≤ p + negUnits x + e = omega (arith, u .hi) in
-    let x-lo : p + negUnits x ≤ posUnits x + n + e = omega (arith, u .lo) in
-    let y-hi : posUnits y + m ≤ q + negUnits y + f = omega (arith, w .hi) in
-    let y-lo : q + negUnits y ≤ posUnits y + m + f = omega (arith, w .lo) in
-    let y-hi' : negUnits y + q ≤ m + posUnits y + f = omega (arith, w .lo) in
-    let y-lo' : m + posUnits y ≤ negUnits y + q + f = omega (arith, w .hi) in
-    let k : magUnits x * f ≡ (posUnits x + negUnits x) * f = ap (λ (t : ℕ). t * f) (mag-parts x) in
-    let up = cross (posUnits x) (negUnits x) (posUnits y) (negUnits y) p n q m e f x-hi x-lo y-hi y-lo in
-    let dn = cross (posUnits x) (negUnits x) (negUnits y) (posUnits y) p n m q e f x-hi x-lo y-hi' y-lo' in
-    let swap : (m + q) * e ≡ (q + m) * e = ap (λ (t : ℕ). t * e) (add-comm m q) in
-    record {
-      fit = r .fit;
-      fin = r .fin;
-      lo = lo-glue (posUnits z * U) (negUnits z * U) (posUnits x * posUnits y + negUnits x * negUnits y)
-          (posUnits x * negUnits y + negUnits x * posUnits y) (p * q + n * m) (p * m + n * q) (magUnits x * f)
-          ((posUnits x + negUnits x) * f) ((q + m) * e) ((m + q) * e) (halfUlp b * U) (r .lo) dn k swap;
-      hi = hi-glue (posUnits z * U) (negUnits z * U) (posUnits x * posUnits y + negUnits x * negUnits y)
-          (posUnits x * negUnits y + negUnits x * posUnits y) (p * q + n * m) (p * m + n * q) (magUnits x * f)
-          ((posUnits x + negUnits x) * f) ((q + m) * e) (halfUlp b * U) (r .hi) up k;
-    }
-  where
-    lo-glue : (zp zn s d pq pm i j v w h : ℕ) → s + zn ≤ zp + d + h → d + pq ≤ s + pm + (j + w) → i ≡ j → w ≡ v → pq + zn ≤ zp + pm + (i + v + h)
-    lo-glue zp zn s d pq pm i j v w h a b c k = omega arith
-
-    hi-glue : (zp zn s d pq pm i j v h : ℕ) → zp + d ≤ s + zn + h → s + pm ≤ d + pq + (j + v) → i ≡ j → zp + pm ≤ pq + zn + (i + v + h)
-    hi-glue zp zn s d pq pm i j v h a b c = omega arith
-
 -- ---- x * x of a value near p - n: near |p - n| squared. (d + e) ^ 2 and d ^ 2 differ by e * (d + d + e)
 sq-hi : (g d e : ℕ) → g ≤ d + e → g * g ≤ d * d + e * (d + d + e)
 sq-hi g d e h =
@@ -300,10 +227,6 @@ sq-lo g d e u h =
     let m : d * e ≡ e * d = mul-comm d e in
     omega arith
 
-same-sign : (s : Bool) → unlike s s ≡ false
-same-sign false = refl
-same-sign true = refl
-
 pub near-square : {x : Float} {p n e : ℕ} (b : ℕ) → Near 1 x p n e → b ≤ 1023 → magUnits x * magUnits x < 2 ^ (b + 1074) * U
     → Near U (mul binary64 x x) (gap p n * gap p n) 0 (e * (gap p n + gap p n + e) + halfUlp b * U)
 near-square {x} {p} {n} {e} b a B h =
@@ -313,7 +236,7 @@ near-square {x} {p} {n} {e} b a B h =
     let r : Rounded z (unlike (isMinus x) (isMinus x)) (g * g) U b = mul-rounded x x b (a .fit) (a .fit) (a .fin) (a .fin) B h in
     let g-hi : g ≤ d + e = near-mag-plain a in
     let g-lo : d ≤ g + e = mag-near-plain a in
-    near-signed false (r .fit) (r .fin) (r .sign ∙ same-sign (isMinus x))
+    near-signed false (r .fit) (r .fin) (r .sign ∙ unlike-same (isMinus x))
     (over (magUnits z * U) (g * g) (d * d) (halfUlp b * U) (e * (d + d + e)) (r .hi) (sq-hi g d e g-hi))
     (under (d * d) (g * g) (magUnits z * U) (e * (d + d + e)) (halfUlp b * U) (sq-lo g d e g-hi g-lo) (r .lo))
   where
@@ -389,10 +312,8 @@ add-grows (fin false m e) (fin false n d) fx fy ix iy sx sy h =
     let a = m * up e * down d in
     let b = n * up d * down e in
     let c = down e * down d in
-    let C = mul-pos (down-pos e) (down-pos d) in
-    let p = round-grows x a (a + b) c fx tt refl C (scaled (m * up e) U (magUnits x) (down e) (down d) (has-value x fx tt .1)) (over a b) h in
-    let q = round-grows y b (a + b) c fy tt refl C
-    (scaled (n * up d) U (magUnits y) (down d) (down e) (has-value y fy tt .1) ∙ ap (λ (z : ℕ). magUnits y * z) (mul-comm (down d) (down e))) (under a b) h in
+    let p = round-grows x a (a + b) c fx tt refl (common-pos e d) (num-x false m e false n d fx fy) (over a b) h in
+    let q = round-grows y b (a + b) c fy tt refl (common-pos e d) (num-y false m e false n d fx fy) (under a b) h in
     record { sign = p .0; left = p .1; right = q .1 }
   where
     over : (a b : ℕ) → a ≤ a + b

@@ -38,29 +38,47 @@ use lib.Ieee.Order.{drop, kept}
 use lib.Ieee.Scale.{finite, grid}
 use Rattle.laws.specs.Order.{Ordered, compared}
 use Rattle.float.specs.Value.{U, magUnits, isMinus}
-use Rattle.float.specs.Laws.Exact.{Exactly, exactly}
+use Rattle.float.specs.Laws.Exact.{Exactly, exactly, add-scaled}
 
--- ---- the whole number v is within half of one of the fraction n / u
-pub record Within (v n u : ℕ) : Type 0 where
-  pub hi : v * u * 2 ≤ n * 2 + u
-  pub lo : n * 2 ≤ v * u * 2 + u
+-- ---- a is off n by at most t
+abbrev pub Off : ℕ → ℕ → ℕ → Type 0
+Off t a n = (a ≤ n + t) × (n ≤ a + t)
 
+-- the same over another denominator: a / den, n / den and t / den are c / w, v / w and s / w
+pub off-rescale : (a n t c v s den w : ℕ) → 0 < den → a * w ≡ c * den → n * w ≡ v * den → t * w ≡ s * den → Off t a n → Off s c v
+off-rescale a n t c v s den w D p q r o = (
+  over a (n + t) c (v + s) p (add-scaled n t w v s den q r) (o .0),
+  over n (a + t) v (c + s) q (add-scaled a t w c s den p r) (o .1),
+)
+  where
+    over : (a b c d : ℕ) → a * w ≡ c * den → b * w ≡ d * den → a ≤ b → c ≤ d
+    over a b c d p q h = le-of-mul-le-mul-right (le-trans (le-of-eq (sym p)) (le-trans (mul-le-mul-right w h) (le-of-eq q))) D
+
+-- ---- the whole number nearest to n / u is off it by half at most
 -- the quotient q with the remainder r, moved up or not
-within : (q r u : ℕ) (o : Ordering) → r < u → Ordered o (r * 2) u → Within (nearest q o) (q * u + r) u
-within q r u Ordering·lt l c = record { hi = omega arith; lo = omega arith }
-within q r u Ordering·eq l c =
+half-off : (q r u : ℕ) (o : Ordering) → r < u → Ordered o (r * 2) u → Off u (nearest q o * u * 2) ((q * u + r) * 2)
+half-off q r u Ordering·lt l c = (omega arith, omega arith)
+half-off q r u Ordering·eq l c =
     let a : nearest q Ordering·eq * u ≡ q * u + q % 2 * u = add-mul q (q % 2) u in
     let small : q % 2 ≤ 1 = omega arith in
     let b : q % 2 * u ≤ 1 * u = mul-le-mul-right u small in
-    record { hi = omega arith; lo = omega arith }
-within q r u Ordering·gt l c =
+    (omega arith, omega arith)
+half-off q r u Ordering·gt l c =
     let a : nearest q Ordering·gt * u ≡ q * u + u = suc-mul q u in
-    record { hi = omega arith; lo = omega arith }
+    (omega arith, omega arith)
 
-pub closest-within : (n u : ℕ) → 0 < u → Within (closest n u) n u
-closest-within n u P =
-    subst (λ (x : ℕ). Within (closest n u) x u) (div-add-mod' n u)
-    (within (n / u) (n % u) u (compare (n % u * 2) u) (mod-lt n P) (compared (n % u * 2) u))
+closest-off : (n u : ℕ) → 0 < u → Off u (closest n u * u * 2) (n * 2)
+closest-off n u P =
+    subst (λ (x : ℕ). Off u (closest n u * u * 2) (x * 2)) (div-add-mod' n u)
+    (half-off (n / u) (n % u) u (compare (n % u * 2) u) (mod-lt n P) (compared (n % u * 2) u))
+
+-- the digits that are kept of n / den: the place of the last of them is 2 ^ drop 53 n den
+pub kept-off : (n den : ℕ) → 0 < den → Off (den * 2 ^ drop 53 n den) (kept 53 n den * 2 ^ drop 53 n den * den * 2) (n * 2)
+kept-off n den D =
+    let k = drop 53 n den in
+    let v = kept 53 n den in
+    let e : v * (den * 2 ^ k) ≡ v * 2 ^ k * den = ap (λ (x : ℕ). v * x) (mul-comm den (2 ^ k)) ∙ sym (mul-assoc v (2 ^ k) den) in
+    subst (λ (a : ℕ). Off (den * 2 ^ k) (a * 2) (n * 2)) e (closest-off n (den * 2 ^ k) (mul-pos D (pow-pos k)))
 
 -- ---- half a place of the last digit of a double below 2 ^ b, in units
 abbrev pub halfUlp : ℕ → ℕ
@@ -75,31 +93,23 @@ place-le n den b D h =
     spare : (z : ℕ) → z ≤ b + 1074 → z - 53 ≤ suc (b + 1020)
     spare z h = omega arith
 
--- the kept digits g, in units, are within halfUlp b of the fraction n / den
-record Off (g n den b : ℕ) : Type 0 where
-  hi : g * den ≤ n + halfUlp b * den
-  lo : n ≤ g * den + halfUlp b * den
-
-off : (n den b : ℕ) → 0 < den → n < 2 ^ (b + 1074) * den → Off (kept 53 n den * 2 ^ drop 53 n den) n den b
+-- so the kept digits, in units, are within halfUlp b of the fraction n / den
+off : (n den b : ℕ) → 0 < den → n < 2 ^ (b + 1074) * den → Off (halfUlp b * den) (kept 53 n den * 2 ^ drop 53 n den * den) n
 off n den b D h =
     let k = drop 53 n den in
-    let v = kept 53 n den in
-    let w : Within v n (den * 2 ^ k) = closest-within n (den * 2 ^ k) (mul-pos D (pow-pos k)) in
-    let e : v * (den * 2 ^ k) ≡ v * 2 ^ k * den = ap (λ (x : ℕ). v * x) (mul-comm den (2 ^ k)) ∙ sym (mul-assoc v (2 ^ k) den) in
     let q : den * 2 ^ k ≤ halfUlp b * den * 2 =
     le-trans (mul-le-mul-left den (place-le n den b D h))
     (le-of-eq (mul-comm den (halfUlp b * 2) ∙ mul-right-comm (halfUlp b) 2 den)) in
-    let both = halve (v * (den * 2 ^ k)) (v * 2 ^ k * den) (den * 2 ^ k) (halfUlp b * den) e (w .hi) (w .lo) q in
-    record { hi = both .0; lo = both .1 }
+    halve (kept 53 n den * 2 ^ k * den) (den * 2 ^ k) (halfUlp b * den) (kept-off n den D) q
   where
-    halve : (a g u t : ℕ) → a ≡ g → a * 2 ≤ n * 2 + u → n * 2 ≤ a * 2 + u → u ≤ t * 2 → (g ≤ n + t) × (n ≤ g + t)
-    halve a g u t e x y z = (omega arith, omega arith)
+    halve : (g u t : ℕ) → Off u (g * 2) (n * 2) → u ≤ t * 2 → Off t g n
+    halve g u t o z = (omega arith, omega arith)
 
 -- it is below 2 ^ 1024, so the result is no infinity
-under : (g n den b : ℕ) → Off g n den b → n < 2 ^ (b + 1074) * den → b ≤ 1023 → g < 2 ^ 2098
+under : (g n den b : ℕ) → Off (halfUlp b * den) (g * den) n → n < 2 ^ (b + 1074) * den → b ≤ 1023 → g < 2 ^ 2098
 under g n den b o h B =
     lt-of-mul-lt-mul-right den
-    (lt-of-le-of-lt (o .hi)
+    (lt-of-le-of-lt (o .0)
     (lt-of-lt-of-le (add-lt-add-of-lt-of-le h (le-refl (halfUlp b * den)))
     (le-trans (le-of-eq (sym (add-mul (2 ^ (b + 1074)) (halfUlp b) den))) (mul-le-mul-right den top))))
   where
@@ -135,27 +145,9 @@ rescale-lt n den v w t D e h =
     lt-of-mul-lt-mul-right w
     (lt-of-le-of-lt (le-of-eq e) (lt-of-lt-of-le (mul-lt-mul-of-pos-right h D) (le-of-eq (mul-right-comm t w den))))
 
-rescale-hi : (g n den v w h : ℕ) → 0 < den → n * w ≡ v * den → g * den ≤ n + h * den → g * w ≤ v + h * w
-rescale-hi g n den v w h D e p =
-    le-of-mul-le-mul-right
-    (le-trans (le-of-eq (mul-right-comm g w den))
-    (le-trans (mul-le-mul-right w p)
-    (le-of-eq
-    (add-mul n (h * den) w
-    ∙ ap (λ (x : ℕ). x + h * den * w) e
-    ∙ ap (λ (x : ℕ). v * den + x) (mul-right-comm h den w)
-    ∙ sym (add-mul v (h * w) den))))) D
-
-rescale-lo : (g n den v w h : ℕ) → 0 < den → n * w ≡ v * den → n ≤ g * den + h * den → v ≤ g * w + h * w
-rescale-lo g n den v w h D e p =
-    le-of-mul-le-mul-right
-    (le-trans (le-of-eq (sym e))
-    (le-trans (mul-le-mul-right w p)
-    (le-of-eq
-    (add-mul (g * den) (h * den) w
-    ∙ ap (λ (x : ℕ). x + h * den * w) (mul-right-comm g den w)
-    ∙ ap (λ (x : ℕ). g * w * den + x) (mul-right-comm h den w)
-    ∙ sym (add-mul (g * w) (h * w) den))))) D
+rescale : (g n den v w h : ℕ) → 0 < den → n * w ≡ v * den → Off (h * den) (g * den) n → Off (h * w) (g * w) v
+rescale g n den v w h D e o =
+    off-rescale (g * den) n (h * den) (g * w) v (h * w) den w D (mul-right-comm g den w) e (mul-right-comm h den w) o
 
 -- num / den is v / w units
 pub round-units : (s : Bool) (num den v w b : ℕ) → 0 < den → num * U * w ≡ v * den → v < 2 ^ (b + 1074) * w → b ≤ 1023
@@ -165,25 +157,15 @@ round-units s num den v w b D e h B =
     let small : n < 2 ^ (b + 1074) * den = rescale-lt n den v w (2 ^ (b + 1074)) D e h in
     let o = off n den b D small in
     let x = round-grid s num den (under (grid binary64 num den) n den b o small B) in
-    let o' : Off (magUnits (round binary64 s num den)) n den b = subst (λ (z : ℕ). Off z n den b) (sym (x .mag)) o in
-    record {
-      fit = x .fit;
-      fin = x .fin;
-      sign = x .sign;
-      hi = rescale-hi (magUnits (round binary64 s num den)) n den v w (halfUlp b) D e (o' .hi);
-      lo = rescale-lo (magUnits (round binary64 s num den)) n den v w (halfUlp b) D e (o' .lo);
-    }
+    let g = magUnits (round binary64 s num den) in
+    let r = rescale g n den v w (halfUlp b) D e (subst (λ (z : ℕ). Off (halfUlp b * den) (z * den) n) (sym (x .mag)) o) in
+    record { fit = x .fit; fin = x .fin; sign = x .sign; hi = r .0; lo = r .1 }
 
 -- a common factor of v and w
 pub rounded-cancel : {x : Float} {s : Bool} {b : ℕ} (v w u : ℕ) → 0 < w → 0 < u → Rounded x s (v * u) (w * u) b → Rounded x s v w b
 rounded-cancel {x} {s} {b} v w u W P r =
-    record {
-      fit = r .fit;
-      fin = r .fin;
-      sign = r .sign;
-      hi = rescale-hi (magUnits x) (v * u) (w * u) v w (halfUlp b) (mul-pos W P) same (r .hi);
-      lo = rescale-lo (magUnits x) (v * u) (w * u) v w (halfUlp b) (mul-pos W P) same (r .lo);
-    }
+    let o = rescale (magUnits x) (v * u) (w * u) v w (halfUlp b) (mul-pos W P) same (r .hi, r .lo) in
+    record { fit = r .fit; fin = r .fin; sign = r .sign; hi = o .0; lo = o .1 }
   where
     same : v * u * w ≡ v * (w * u)
     same = mul-assoc v u w ∙ ap (λ (z : ℕ). v * z) (mul-comm u w)

@@ -264,11 +264,19 @@ neg-exactly (fin false m (negsuc k)) i = (refl, refl, tt)
 neg-exactly (fin true m (pos k)) i = (refl, refl, tt)
 neg-exactly (fin true m (negsuc k)) i = (refl, refl, tt)
 
--- ---- x + x is twice x
--- a numerator over a common denominator
+-- ---- equal fractions: a / c and x / u
+-- over a common denominator
 pub scaled : (a u x d c : ℕ) → a * u ≡ x * d → a * c * u ≡ x * (d * c)
 scaled a u x d c e = mul-right-comm a c u ∙ ap (λ (z : ℕ). z * c) e ∙ mul-assoc x d c
 
+-- k times as large, and the sum of two
+pub times-scaled : (k a u x c : ℕ) → a * u ≡ x * c → a * k * u ≡ x * k * c
+times-scaled k a u x c e = mul-right-comm a k u ∙ ap (λ (z : ℕ). z * k) e ∙ mul-right-comm x c k
+
+pub add-scaled : (a b u x y c : ℕ) → a * u ≡ x * c → b * u ≡ y * c → (a + b) * u ≡ (x + y) * c
+add-scaled a b u x y c p q = add-mul a b u ∙ ap₂ (λ (i j : ℕ). i + j) p q ∙ sym (add-mul x y c)
+
+-- ---- x + x is twice x
 twice : (s : Bool) (m : ℕ) (e : ℤ) → T (fits binary64 (fin s m e)) → magUnits (fin s m e) * 2 < 2 ^ 2098
     → Exactly (round binary64 s (m * up e * down e + m * up e * down e) (down e * down e)) s (magUnits (fin s m e) * 2)
 twice s m e f h =
@@ -290,11 +298,16 @@ double-exactly (inf s) f i h = absurd i
 double-exactly (fin false m e) f i h = twice false m e f h
 double-exactly (fin true m e) f i h = twice true m e f h
 
--- ---- x * 1.0 is x
+-- ---- the sign of a product
 pub unlike-false : (s : Bool) → unlike s false ≡ s
 unlike-false false = refl
 unlike-false true = refl
 
+pub unlike-same : (s : Bool) → unlike s s ≡ false
+unlike-same false = refl
+unlike-same true = refl
+
+-- ---- x * 1.0 is x
 pub mul-one-is : (x : Float) → T (fits binary64 x) → T (finite x) → mul binary64 x one64 ≡ x
 unfolding mul
 mul-one-is nan f i = absurd i
@@ -304,5 +317,7 @@ mul-one-is (fin s m e) f i =
     let r : Exactly (round binary64 (unlike s false) (m * up e * 1) (down e * 1)) (unlike s false) (magUnits x * 1) =
     round-held (unlike s false) (m * up e * 1) (down e * 1) x 0 f i (mul-pos (down-pos e) (lit≤ tt))
     (lt-of-le-of-lt (le-of-eq (mul-one (magUnits x))) (mag-lt x f i))
-    (ap (λ (z : ℕ). z * U) (mul-one (m * up e)) ∙ has-value x f tt .1 ∙ ap₂ (λ (a b : ℕ). a * b) (sym (mul-one (magUnits x))) (sym (mul-one (down e)))) in
+    (ap (λ (z : ℕ). z * U) (mul-one (m * up e))
+    ∙ has-value x f tt .1
+    ∙ ap₂ (λ (a b : ℕ). a * b) (sym (mul-one (magUnits x))) (sym (mul-one (down e)))) in
     same-units (mul binary64 x one64) x (r .fit) f (r .fin) tt (r .sign ∙ unlike-false s) (r .mag ∙ mul-one (magUnits x))

@@ -12,6 +12,7 @@ use native.Mathlib.Nat.{
   lt-of-le-of-lt,
   add-zero,
   zero-add,
+  add-comm,
   add-le-add,
   add-lt-add-of-le-of-lt,
   add-mul,
@@ -29,8 +30,8 @@ use lib.ListN.{length}
 use lib.Ieee.{Float, binary64, fits, add, sub, ofInt, lt}
 use lib.Ieee.Scale.{finite}
 use Rattle.laws.specs.Whole.{posPart, negPart, gap}
-use Rattle.float.specs.Value.{U, magUnits, posUnits, negUnits}
-use Rattle.float.specs.Calls.{sumFrom}
+use Rattle.float.specs.Value.{U, magUnits, posUnits, negUnits, zero64}
+use Rattle.float.specs.Calls.{sumFrom, sumOf}
 use Rattle.float.specs.Distance.{coordGap, sqDist, margin, sqDiff, sqTerms, floatDist}
 use Rattle.float.specs.Laws.Exact.{mag-parts, IsWhole, ofInt-whole}
 use Rattle.float.specs.Laws.Error.{halfUlp}
@@ -48,19 +49,24 @@ pub near-sum : (c f : ℕ) (acc : Float) (xs : List Float) {i j e p n : ℕ} (b 
     → Near c (sumFrom acc xs) (i + p) (j + n) (e + length xs * (f + halfUlp b * c))
 unfolding sumFrom
 near-sum c f acc [] {i} {j} {e} b B none a h =
-    near-more (e + 0 * (f + halfUlp b * c)) (near-parts (i + 0) (j + 0) a (omega arith)) (le-of-eq (sym (ap (λ (z : ℕ). e + z) (zero-mul (f + halfUlp b * c)) ∙ add-zero e)))
+    near-more (e + 0 * (f + halfUlp b * c)) (near-parts (i + 0) (j + 0) a (omega arith))
+    (le-of-eq (sym (ap (λ (z : ℕ). e + z) (zero-mul (f + halfUlp b * c)) ∙ add-zero e)))
 near-sum c f acc (x ∷ xs) {i} {j} {e} b B (more {q = q} {m = m} {p = p} {n = n} k t) a h =
     let w = f + halfUlp b * c in
     let l = length xs in
+    let g = halfUlp b * c in
+    let top = 2 ^ (b + 1074) * c in
+    let s : suc l * w ≡ l * w + w = suc-mul l w in
     let room : magUnits acc + magUnits x < 2 ^ (b + 1074) =
     lt-of-mul-lt-mul-right c
     (lt-of-le-of-lt (le-of-eq (add-mul (magUnits acc) (magUnits x) c))
-    (now (magUnits acc * c) (magUnits x * c) q m p n (halfUlp b * c) (l * w) (suc l * w) (2 ^ (b + 1074) * c) (near-mag a) (near-mag k) (suc-mul l w) h)) in
-    let a' : Near c (add binary64 acc x) (i + q) (j + m) (e + f + halfUlp b * c) = near-add b a k B room in
-    let r = near-sum c f (add binary64 acc x) xs b B t a' (later q m p n (halfUlp b * c) (l * w) (suc l * w) (2 ^ (b + 1074) * c) (suc-mul l w) h) in
-    near-more (e + suc l * w) (near-parts (i + (q + p)) (j + (m + n)) r (regroup q m p n)) (le-of-eq (errors (halfUlp b * c) (l * w) (suc l * w) (suc-mul l w)))
+    (now (magUnits acc * c) (magUnits x * c) q m p n g (l * w) (suc l * w) top (near-mag a) (near-mag k) s h)) in
+    let a' : Near c (add binary64 acc x) (i + q) (j + m) (e + f + g) = near-add b a k B room in
+    let r = near-sum c f (add binary64 acc x) xs b B t a' (later q m p n g (l * w) (suc l * w) top s h) in
+    near-more (e + suc l * w) (near-parts (i + (q + p)) (j + (m + n)) r (regroup q m p n)) (le-of-eq (errors g (l * w) (suc l * w) s))
   where
-    now : (u v q m p n g s s' t : ℕ) → u ≤ gap i j + e → v ≤ gap q m + f → s' ≡ s + (f + g) → i + j + e + (q + p + (m + n)) + s' < t → u + v < t
+    now : (u v q m p n g s s' t : ℕ) → u ≤ gap i j + e → v ≤ gap q m + f → s' ≡ s + (f + g)
+        → i + j + e + (q + p + (m + n)) + s' < t → u + v < t
     now u v q m p n g s s' t x y z h = omega arith
 
     later : (q m p n g s s' t : ℕ) → s' ≡ s + (f + g) → i + j + e + (q + p + (m + n)) + s' < t → i + q + (j + m) + (e + f + g) + (p + n) + s < t
@@ -71,6 +77,18 @@ near-sum c f acc (x ∷ xs) {i} {j} {e} b B (more {q = q} {m = m} {p = p} {n = n
 
     regroup : (q m p n : ℕ) → i + q + p + (j + (m + n)) ≡ i + (q + p) + (j + m + n)
     regroup q m p n = omega arith
+
+-- at most k terms, from +0.0
+pub near-sumOf : (c f : ℕ) (xs : List Float) {s : ℕ} (b k e : ℕ) → b ≤ 1023 → Terms c f xs s 0 → length xs ≤ k
+    → s + k * (f + halfUlp b * c) < 2 ^ (b + 1074) * c → k * (f + halfUlp b * c) ≤ e → Near c (sumOf xs) s 0 e
+near-sumOf c f xs {s} b k e B t l room small =
+    let w = f + halfUlp b * c in
+    let lw : length xs * w ≤ k * w = mul-le-mul-right w l in
+    let r = near-sum c f zero64 xs b B t (near-zero c) (lt-of-le-of-lt (from-zero (length xs * w) (k * w) lw) room) in
+    near-more e (near-parts s 0 r (omega arith)) (le-trans (le-of-eq (zero-add (length xs * w))) (le-trans lw small))
+  where
+    from-zero : (a b : ℕ) → a ≤ b → 0 + 0 + 0 + (s + 0) + a ≤ s + b
+    from-zero a b h = omega arith
 
 -- ---- one squared difference, of |v| + |t| below 64: within 2 ^ -38
 abbrev pub apart : Float → Float → ℕ
@@ -86,7 +104,8 @@ pub near-sqDiff : (v t : Float) → T (fits binary64 v) → T (fits binary64 t) 
     → Near U (sqDiff v t) (apart v t * apart v t) 0 (2 ^ 2110)
 near-sqDiff v t fv ft iv it h =
     let d = sub binary64 v t in
-    let n : Near 1 d (posUnits v + negUnits t) (negUnits v + posUnits t) (2 ^ 1026) = near-sub 6 (near-self v fv iv) (near-self t ft it) (lit≤ tt) h in
+    let n : Near 1 d (posUnits v + negUnits t) (negUnits v + posUnits t) (2 ^ 1026) =
+    near-sub 6 (near-self v fv iv) (near-self t ft it) (lit≤ tt) h in
     let small : apart v t ≤ 2 ^ 1080 = le-trans (apart-le v t) (le-of-lt h) in
     let g : magUnits d ≤ 2 ^ 1080 + 2 ^ 1026 =
     le-trans (near-mag-plain n) (add-le-add small (le-refl (2 ^ 1026))) in
@@ -162,28 +181,17 @@ unfolding sqDist AllTame
 dist-le [] ts a = zero-le
 dist-le (y ∷ ys) [] a = zero-le
 dist-le (y ∷ ys) (t ∷ ts) a =
-    le-trans (add-le-add (gap-sq y t (a .0)) (dist-le ys ts (a .1))) (le-of-eq (flip (2 ^ 2160) (length ts * 2 ^ 2160) ∙ sym (suc-mul (length ts) (2 ^ 2160))))
-  where
-    flip : (a b : ℕ) → a + b ≡ b + a
-    flip a b = omega arith
+    le-trans (add-le-add (gap-sq y t (a .0)) (dist-le ys ts (a .1)))
+    (le-of-eq (add-comm (2 ^ 2160) (length ts * 2 ^ 2160) ∙ sym (suc-mul (length ts) (2 ^ 2160))))
 
 -- ---- a squared distance over at most 24 coordinates: within 2 ^ -31
 pub near-dist : (ys : List ℤ) (ts : List Float) → length ts ≤ 24 → AllTame ys ts → Near U (floatDist ys ts) (sqDist ys ts) 0 (2 ^ 2117)
 near-dist ys ts n a =
     let w = 2 ^ 2110 + halfUlp 18 * U in
-    let l = length (sqTerms ys ts) in
-    let lw : l * w ≤ 24 * w = mul-le-mul-right w (le-trans (terms-length ys ts) n) in
     let d : sqDist ys ts ≤ 24 * 2 ^ 2160 = le-trans (dist-le ys ts a) (mul-le-mul-right (2 ^ 2160) n) in
     let top : 24 * 2 ^ 2160 + 24 * w < 2 ^ 1092 * U = lit≤ tt in
-    let all : 24 * w ≤ 2 ^ 2117 = lit≤ tt in
-    let r = near-sum U (2 ^ 2110) _ (sqTerms ys ts) 18 (lit≤ tt) (terms ys ts a) (near-zero U) (lt-of-le-of-lt (room (sqDist ys ts) (l * w) (24 * 2 ^ 2160) (24 * w) d lw) top) in
-    near-more (2 ^ 2117) (near-parts (sqDist ys ts) 0 r (plain (sqDist ys ts))) (le-trans (le-of-eq (zero-add (l * w))) (le-trans lw all))
-  where
-    room : (s a b c : ℕ) → s ≤ b → a ≤ c → 0 + 0 + 0 + (s + 0) + a ≤ b + c
-    room s a b c h k = omega arith
-
-    plain : (s : ℕ) → 0 + s + 0 ≡ s + (0 + 0)
-    plain s = omega arith
+    near-sumOf U (2 ^ 2110) (sqTerms ys ts) 18 24 (2 ^ 2117) (lit≤ tt) (terms ys ts a) (le-trans (terms-length ys ts) n)
+    (lt-of-le-of-lt (add-le-add d (le-refl (24 * w))) top) (lit≤ tt)
 
 -- ---- the theorem
 pub margin-decides : (ys zs : List ℤ) (ts : List Float) → length ts ≤ 24 → AllTame ys ts → AllTame zs ts → sqDist ys ts + margin ≤ sqDist zs ts

@@ -5,19 +5,31 @@
 use mathlib.Core.Path.{_≡_, refl, sym, ap, _∙_, subst}
 use mathlib.Core.Bool.{Bool, true, false, cond}
 use Prim.Native.Nat.{ℕ, zero, suc, _+_, _*_, _≤_, _<_}
-use native.Mathlib.Nat.{le-trans, le-of-eq, lt-of-lt-of-le, lt-of-le-of-lt, add-mul, mul-le-mul-right, lt-of-mul-lt-mul-right, mul-one, zero-mul}
+use native.Mathlib.Nat.{
+  le-trans,
+  le-of-eq,
+  lt-of-lt-of-le,
+  lt-of-le-of-lt,
+  not-le-of-lt,
+  add-mul,
+  mul-le-mul-right,
+  lt-of-mul-lt-mul-right,
+  mul-one,
+  zero-mul,
+}
 use native.Mathlib.Omega.{arith}
 use lib.Dec.{T}
 use lib.IntN.{pos, negsuc}
 use lib.Ieee.{Float, nan, inf, fin, binary64, fits, lt, neg}
 use lib.Ieee.Fits.{neg-fits}
 use lib.Ieee.Scale.{finite}
+use Rattle.laws.specs.Tests.{is-false}
 use Rattle.laws.specs.Whole.{gap}
 use Rattle.float.specs.Value.{magUnits, isMinus, posUnits, negUnits, zero64}
 use Rattle.float.specs.Calls.{absOf}
-use Rattle.float.specs.Laws.Exact.{zero-fits, Exactly, neg-exactly}
-use Rattle.float.specs.Laws.Compare.{is-lt}
-use Rattle.float.specs.Laws.Error.{halfUlp, Rounded}
+use Rattle.float.specs.Laws.Exact.{zero-fits, parts, Exactly, neg-exactly}
+use Rattle.float.specs.Laws.Compare.{lt-is, is-lt, not-lt-is}
+use Rattle.float.specs.Laws.Error.{Off, halfUlp, Rounded}
 
 pub record Near (c : ℕ) (x : Float) (p n e : ℕ) : Type 0 where
   pub fit : T (fits binary64 x)
@@ -33,7 +45,8 @@ near-signed {c} {x} {v} {e} s f i sign hi lo =
     record { fit = f; fin = i; lo = both .0; hi = both .1 }
   where
     Both : Bool → Bool → ℕ → Type 0
-    Both t s g = (cond s 0 v + cond t g 0 * c ≤ cond t 0 g * c + cond s v 0 + e) × (cond t 0 g * c + cond s v 0 ≤ cond s 0 v + cond t g 0 * c + e)
+    Both t s g =
+        (cond s 0 v + cond t g 0 * c ≤ cond t 0 g * c + cond s v 0 + e) × (cond t 0 g * c + cond s v 0 ≤ cond s 0 v + cond t g 0 * c + e)
 
     go : (s : Bool) (g : ℕ) → g * c ≤ v + e → v ≤ g * c + e → Both s s g
     go false g h l = let z : 0 * c ≡ 0 = zero-mul c in (omega arith, omega arith)
@@ -114,13 +127,11 @@ near-neg {c} {x} {p} {n} {e} a =
     turn i j k l h = omega arith
 
 -- ---- the magnitude of a value near p - n is near |p - n|
-abbrev Mags : ℕ → ℕ → ℕ → ℕ → Type 0
-Mags g p n e = (g ≤ gap p n + e) × (gap p n ≤ g + e)
-
-mags : {c : ℕ} {x : Float} {p n e : ℕ} → Near c x p n e → Mags (magUnits x * c) p n e
+mags : {c : ℕ} {x : Float} {p n e : ℕ} → Near c x p n e → Off e (magUnits x * c) (gap p n)
 mags {c} {x} {p} {n} {e} a = go (isMinus x) (magUnits x) (a .lo) (a .hi)
   where
-    go : (s : Bool) (g : ℕ) → p + cond s g 0 * c ≤ cond s 0 g * c + n + e → cond s 0 g * c + n ≤ p + cond s g 0 * c + e → Mags (g * c) p n e
+    go : (s : Bool) (g : ℕ) → p + cond s g 0 * c ≤ cond s 0 g * c + n + e → cond s 0 g * c + n ≤ p + cond s g 0 * c + e
+        → Off e (g * c) (gap p n)
     go false g lo hi = let z : 0 * c ≡ 0 = zero-mul c in (omega arith, omega arith)
     go true g lo hi = let z : 0 * c ≡ 0 = zero-mul c in (omega arith, omega arith)
 
@@ -144,10 +155,37 @@ abs-exactly (fin s zero (negsuc k)) f i = record { fit = f; fin = tt; sign = ref
 abs-exactly (fin s (suc m) (pos k)) f i = record { fit = f; fin = tt; sign = refl; mag = refl }
 abs-exactly (fin s (suc m) (negsuc k)) f i = record { fit = f; fin = tt; sign = refl; mag = refl }
 
+-- the test |x| > l, for an l that is not negative
+module _ (l x : Float) (fl : T (fits binary64 l)) (il : T (finite l)) (sl : isMinus l ≡ false) (fx : T (fits binary64 x)) (ix : T (finite x)) where
+  pub abs-over : T (lt l (absOf x)) → magUnits l < magUnits x
+  abs-over t =
+      let a = abs-exactly x fx ix in
+      let p = parts l false sl in
+      let q = parts (absOf x) false (a .sign) in
+      go (posUnits l) (negUnits l) (posUnits (absOf x)) (negUnits (absOf x)) (p .0) (p .1) (q .0 ∙ a .mag) (q .1)
+      (lt-is l (absOf x) fl (a .fit) il (a .fin) t)
+    where
+      go : (pl nl px nx : ℕ) → pl ≡ magUnits l → nl ≡ 0 → px ≡ magUnits x → nx ≡ 0 → pl + nx < px + nl → magUnits l < magUnits x
+      go pl nl px nx a b c d h = omega arith
+
+  pub abs-upto : lt l (absOf x) ≡ false → magUnits x ≤ magUnits l
+  abs-upto h =
+      let a = abs-exactly x fx ix in
+      let p = parts l false sl in
+      let q = parts (absOf x) false (a .sign) in
+      go (posUnits l) (negUnits l) (posUnits (absOf x)) (negUnits (absOf x)) (p .0) (p .1) (q .0 ∙ a .mag) (q .1)
+      (not-lt-is l (absOf x) fl (a .fit) il (a .fin) h)
+    where
+      go : (pl nl px nx : ℕ) → pl ≡ magUnits l → nl ≡ 0 → px ≡ magUnits x → nx ≡ 0 → px + nl ≤ pl + nx → magUnits x ≤ magUnits l
+      go pl nl px nx a b c d h = omega arith
+
+  pub upto-abs : magUnits x ≤ magUnits l → lt l (absOf x) ≡ false
+  upto-abs h = is-false (lt l (absOf x)) (λ t. not-le-of-lt (abs-over t) h)
+
 pub near-abs : {c : ℕ} {x : Float} {p n e : ℕ} → Near c x p n e → Near c (absOf x) (gap p n) 0 e
 near-abs {c} {x} {p} {n} {e} a =
     let b = abs-exactly x (a .fit) (a .fin) in
-    let m : Mags (magUnits (absOf x) * c) p n e = subst (λ (g : ℕ). Mags (g * c) p n e) (sym (b .mag)) (mags a) in
+    let m : Off e (magUnits (absOf x) * c) (gap p n) = subst (λ (g : ℕ). Off e (g * c) (gap p n)) (sym (b .mag)) (mags a) in
     near-signed false (b .fit) (b .fin) (b .sign) (m .0) (m .1)
 
 -- ---- a comparison of two values whose exact numbers are further apart than their errors

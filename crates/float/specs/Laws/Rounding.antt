@@ -27,7 +27,7 @@ use native.Mathlib.Nat.{
 }
 use native.Mathlib.Omega.{arith}
 use lib.Dec.{T, lit≤}
-use lib.IntN.{pos, negℤ, natAbs}
+use lib.IntN.{ℤ, pos, negℤ, natAbs}
 use lib.Pow.{pow-pos}
 use lib.Ieee.{Float, nan, inf, fin, binary64, fits, sub, div, lt}
 use lib.Ieee.Fits.{cond-fits}
@@ -63,44 +63,29 @@ pub halved : (x : Float) → Halved x
 unfolding halfUp
 halved x = record { hi = cut-hi (magUnits x) U; lo = cut-lo (magUnits x) U (pow-pos 1074) }
 
--- the magnitude and the two parts of the rounded number
-pub round-abs : (x : Float) → natAbs (roundAway x) ≡ halfUp x
-unfolding roundAway
-round-abs x = go (isMinus x) (halfUp x)
-  where
-    go : (s : Bool) (h : ℕ) → natAbs (cond s (negℤ (pos h)) (pos h)) ≡ h
-    go false h = refl
-    go true zero = refl
-    go true (suc h) = refl
+-- r is the whole number of the magnitude h, with the sign s: its magnitude and its two parts
+abbrev Signed : Bool → ℕ → ℤ → Type 0
+Signed s h r = (natAbs r ≡ h) × (posPart r ≡ cond s 0 h) × (negPart r ≡ cond s h 0)
 
-pub round-pos : (x : Float) → posPart (roundAway x) ≡ cond (isMinus x) 0 (halfUp x)
+round-parts : (x : Float) → Signed (isMinus x) (halfUp x) (roundAway x)
 unfolding roundAway
-round-pos x = go (isMinus x) (halfUp x)
+round-parts x = go (isMinus x) (halfUp x)
   where
-    go : (s : Bool) (h : ℕ) → posPart (cond s (negℤ (pos h)) (pos h)) ≡ cond s 0 h
-    go false h = refl
-    go true zero = refl
-    go true (suc h) = refl
-
-pub round-neg : (x : Float) → negPart (roundAway x) ≡ cond (isMinus x) (halfUp x) 0
-unfolding roundAway
-round-neg x = go (isMinus x) (halfUp x)
-  where
-    go : (s : Bool) (h : ℕ) → negPart (cond s (negℤ (pos h)) (pos h)) ≡ cond s h 0
-    go false h = refl
-    go true zero = refl
-    go true (suc h) = refl
+    go : (s : Bool) (h : ℕ) → Signed s h (cond s (negℤ (pos h)) (pos h))
+    go false h = (refl, refl, refl)
+    go true zero = (refl, refl, refl)
+    go true (suc h) = (refl, refl, refl)
 
 -- ---- the range
-million-mag : magUnits million64 ≡ 1000000 * U
+pub million-units : magUnits million64 ≡ 1000000 * U
 unfolding magUnits
-million-mag = refl
+million-units = refl
 
-minus-mag : magUnits minusMillion64 ≡ 1000000 * U
+minus-units : magUnits minusMillion64 ≡ 1000000 * U
 unfolding magUnits
-minus-mag = refl
+minus-units = refl
 
-million-fits : T (fits binary64 million64)
+pub million-fits : T (fits binary64 million64)
 unfolding fits
 million-fits = tt
 
@@ -126,19 +111,19 @@ between true g m n k d e h l = omega arith
 pub clamped-range : (z : Float) → T (fits binary64 z) → Ranged (clamped z)
 unfolding clamped lt
 clamped-range nan f = inl refl
-clamped-range (inf true) f = inr (tt, le-of-eq minus-mag)
-clamped-range (inf false) f = inr (tt, le-of-eq million-mag)
+clamped-range (inf true) f = inr (tt, le-of-eq minus-units)
+clamped-range (inf false) f = inr (tt, le-of-eq million-units)
 clamped-range (fin s m e) f = go (lt z minusMillion64) (lt million64 z) refl refl
   where
     z : Float
     z = fin s m e
 
     go : (a b : Bool) → lt z minusMillion64 ≡ a → lt million64 z ≡ b → Ranged (cond a minusMillion64 (cond b million64 z))
-    go true b p q = inr (tt, le-of-eq minus-mag)
-    go false true p q = inr (tt, le-of-eq million-mag)
+    go true b p q = inr (tt, le-of-eq minus-units)
+    go false true p q = inr (tt, le-of-eq million-units)
     go false false p q = inr (
       tt,
-      between s (magUnits z) (magUnits million64) (magUnits minusMillion64) (1000000 * U) million-mag minus-mag
+      between s (magUnits z) (magUnits million64) (magUnits minusMillion64) (1000000 * U) million-units minus-units
           (not-lt-is z minusMillion64 f minus-fits tt tt p) (not-lt-is million64 z million-fits f tt tt q),
     )
 
@@ -158,17 +143,20 @@ clamped-small z f i h =
     high true g n k e h l = omega arith
 
     below : T (lt z minusMillion64) → ⊥
-    below t = low (isMinus z) (magUnits z) (magUnits minusMillion64) (1000000 * U) minus-mag h (lt-is z minusMillion64 f minus-fits i tt t)
+    below t = low (isMinus z) (magUnits z) (magUnits minusMillion64) (1000000 * U) minus-units h (lt-is z minusMillion64 f minus-fits i tt t)
 
     above : T (lt million64 z) → ⊥
-    above t = high (isMinus z) (magUnits z) (magUnits million64) (1000000 * U) million-mag h (lt-is million64 z million-fits f tt i t)
+    above t = high (isMinus z) (magUnits z) (magUnits million64) (1000000 * U) million-units h (lt-is million64 z million-fits f tt i t)
 
 pub rounded-small : (z : Float) → T (fits binary64 z) → T (finite z) → magUnits z ≤ 1000000 * U → rounded z ≡ roundAway z
 unfolding rounded
 rounded-small z f i h = ap roundAway (clamped-small z f i h)
 
 pub halfUp-le : (x : Float) → magUnits x ≤ 1000000 * U → halfUp x ≤ 1000000
-halfUp-le x h = le-of-suc-le-suc (lt-of-mul-lt-mul-right U (under (halfUp x * U) (magUnits x) U (1000000 * U) (1000001 * U) (halved x .hi) h (lit≤ tt) (pow-pos 1074)))
+halfUp-le x h =
+    le-of-suc-le-suc
+    (lt-of-mul-lt-mul-right U
+    (under (halfUp x * U) (magUnits x) U (1000000 * U) (1000001 * U) (halved x .hi) h (lit≤ tt) (pow-pos 1074)))
   where
     under : (a g u m n : ℕ) → a * 2 ≤ g * 2 + u → g ≤ m → m + u ≤ n → 0 < u → a < n
     under a g u m n p q r s = omega arith
@@ -182,13 +170,17 @@ pub record Small (z : Float) : Type 0 where
 -- the answer is at most a million in size
 pub rounded-le : (z : Float) → T (fits binary64 z) → natAbs (rounded z) ≤ 1000000
 unfolding rounded
-rounded-le z f = elim (clamped-range z f) [ inl e ↦ subst (λ (c : Float). natAbs (roundAway c) ≤ 1000000) (sym e) none | inr r ↦ size (clamped z) (r .1) ]
+rounded-le z f =
+    elim (clamped-range z f) [
+      | inl e ↦ subst (λ (c : Float). natAbs (roundAway c) ≤ 1000000) (sym e) none
+      | inr r ↦ size (clamped z) (r .1)
+    ]
   where
     none : natAbs (roundAway nan) ≤ 1000000
     none = unfold roundAway halfUp magUnits in lit≤ tt
 
     size : (c : Float) → magUnits c ≤ 1000000 * U → natAbs (roundAway c) ≤ 1000000
-    size c h = le-trans (le-of-eq (round-abs c)) (halfUp-le c h)
+    size c h = le-trans (le-of-eq (round-parts c .0)) (halfUp-le c h)
 
 -- ---- k = roundAway z for z near (t - o) / 4: 4 k is within 2 of t - o, but for the error
 abbrev Two : ℕ → ℕ → ℕ → ℕ → ℕ → ℕ → Type 0
@@ -203,8 +195,8 @@ two true g h u p n e a b c d = let z : 0 * u ≡ 0 = zero-mul u in (omega arith,
 pub round-close : {z : Float} {p n e : ℕ} → Near 4 z p n e → Two (posPart (roundAway z)) (negPart (roundAway z)) p n U e
 round-close {z} {p} {n} {e} a =
     let h = halved z in
-    subst (λ (i : ℕ). Two i (negPart (roundAway z)) p n U e) (sym (round-pos z))
-    (subst (λ (j : ℕ). Two (cond (isMinus z) 0 (halfUp z)) j p n U e) (sym (round-neg z))
+    subst (λ (i : ℕ). Two i (negPart (roundAway z)) p n U e) (sym (round-parts z .1))
+    (subst (λ (j : ℕ). Two (cond (isMinus z) 0 (halfUp z)) j p n U e) (sym (round-parts z .2))
     (two (isMinus z) (magUnits z) (halfUp z) U p n e (h .hi) (le-of-lt (h .lo)) (a .lo) (a .hi)))
 
 -- So no other k is nearer by more than the error: g0 is the distance of this one, g that of another, which lies at least 4 away.

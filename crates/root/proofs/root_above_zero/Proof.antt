@@ -38,7 +38,8 @@ add-result-2 c =
     let e = at .before .before .before .evened .ensures in
     let g = at .before .before .raised .ensures in
     let i = at .before .root-digits .ensures in
-    let k : at .before .before .before .evened .result .k / 2 + 511 - at .before .before .raised .result .k < 2000 = place-lt p e g i (at .picked .ensures) in
+    let k : at .before .before .before .evened .result .k / 2 + 511 - at .before .before .raised .result .k < 2000 =
+    place-lt p e g i (at .picked .ensures) in
     let r : at .picked .result ≤ 2 ^ 53 = last-le p e g i (at .picked .ensures) in
     omega arith
 

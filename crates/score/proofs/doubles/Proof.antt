@@ -56,7 +56,8 @@ loop-again c =
     let back : toZ w32 (ofZ w32 z) ≡ z = toZ-ofZ w32 z (record { sfits = c .before .t .given }) in (
       omega arith,
       simp length-set (at .inv .1),
-      filled-more Float nan (as-double y) (at .t) (at .i) (ofInt binary64 (toZ w32 (ofZ w32 z))) (omega arith) (ap (ofInt binary64) back) (at .inv .2),
+      filled-more Float nan (as-double y) (at .t) (at .i) (ofInt binary64 (toZ w32 (ofZ w32 z))) (omega arith) (ap (ofInt binary64) back)
+          (at .inv .2),
     )
 
 returns : tie.Need-returns Inv-loop μ-loop

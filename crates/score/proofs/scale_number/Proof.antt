@@ -43,18 +43,22 @@ some-exceeds-requires c κs = search needs
 returns-3 : tie.Need-returns-3
 unfolding scaleNumber ofBits
 returns-3 c =
-    let e = sym (c .before .before .before .before .before .before .is-scale .ensures) ∙ is-so _ (c .before .before .before .before .before .if1 .left) in
-    let n = sym (c .before .before .before .before .sample-number .ensures) ∙ c .before .before .before .if2 .left in
+    let at = c .before .before .before .before in
+    let e = sym (at .before .before .is-scale .ensures) ∙ is-so _ (at .before .if1 .left) in
+    let n = sym (at .sample-number .ensures) ∙ c .before .before .before .if2 .left in
     let q = sym (c .before .some-exceeds .ensures ∙ ap (some (exceeds million64)) (c .before .before .quotients .ensures)) ∙ c .if3 .taken in
     rw (e, n, q)
 
 returns-4 : tie.Need-returns-4
 unfolding scaleNumber ofBits
 returns-4 c =
-    let e = sym (c .before .before .before .before .before .before .is-scale .ensures) ∙ is-so _ (c .before .before .before .before .before .if1 .left) in
-    let n = sym (c .before .before .before .before .sample-number .ensures) ∙ c .before .before .before .if2 .left in
+    let at = c .before .before .before .before in
+    let e = sym (at .before .before .is-scale .ensures) ∙ is-so _ (at .before .if1 .left) in
+    let n = sym (at .sample-number .ensures) ∙ c .before .before .before .if2 .left in
     let q = sym (c .before .some-exceeds .ensures ∙ ap (some (exceeds million64)) (c .before .before .quotients .ensures)) ∙ c .if3 .left in
     rw (e, n, q)
 
 pub scale-number-spec : {M : Type 1} → statement M
-scale-number-spec = tie.close (tie.spec is-scale-requires returns sample-number-requires returns-2 quotients-requires some-exceeds-requires returns-3 returns-4)
+scale-number-spec =
+    tie.close
+    (tie.spec is-scale-requires returns sample-number-requires returns-2 quotients-requires some-exceeds-requires returns-3 returns-4)

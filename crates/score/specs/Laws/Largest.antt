@@ -4,7 +4,7 @@ use mathlib.Core.Bool.{Bool, true, false, cond}
 use mathlib.Core.Logic.{_⊎_, inl, inr}
 use mathlib.Core.List.{List, [], _∷_}
 use Prim.Native.Nat.{ℕ, _+_, _≤_, _<_}
-use native.Mathlib.Nat.{le-trans, le-of-eq, le-refl}
+use native.Mathlib.Nat.{le-trans, le-of-eq, le-of-lt, le-refl}
 use native.Mathlib.Omega.{arith}
 use lib.Dec.{T}
 use lib.Ieee.{Float, binary64, fits, lt}
@@ -12,9 +12,9 @@ use lib.Ieee.Scale.{finite}
 use Rattle.laws.specs.Tests.{true-is}
 use Rattle.float.specs.Value.{magUnits, isMinus, posUnits, negUnits, zero64}
 use Rattle.float.specs.Calls.{absOf}
-use Rattle.float.specs.Laws.Exact.{Parts, parts, zero-fits, zero-mag}
-use Rattle.float.specs.Laws.Compare.{lt-is, is-lt, not-lt-is}
-use Rattle.float.specs.Laws.Near.{abs-exactly}
+use Rattle.float.specs.Laws.Exact.{Exactly, parts, zero-fits, zero-mag}
+use Rattle.float.specs.Laws.Compare.{is-lt}
+use Rattle.float.specs.Laws.Near.{abs-exactly, abs-over, abs-upto}
 use Rattle.score.specs.Scale.{larger, largestFrom, largestOf}
 use Rattle.score.specs.Laws.Sample.{UpTo, Each, none, more}
 
@@ -37,43 +37,32 @@ above-zero s p h =
     go : (a b m z : ℕ) → a ≡ m → b ≡ 0 → z ≡ 0 → 0 < m → z + b < a + 0
     go a b m z i j k h = omega arith
 
--- ---- the larger of two
-record Larger (a b r : Float) : Type 0 where
+-- ---- the larger of a and |x|
+record Larger (a x r : Float) : Type 0 where
   plain : Plain r
   left : magUnits a ≤ magUnits r
-  right : magUnits b ≤ magUnits r
-  one : (magUnits r ≡ magUnits a) ⊎ (magUnits r ≡ magUnits b)
+  right : magUnits x ≤ magUnits r
+  one : (magUnits r ≡ magUnits a) ⊎ (magUnits r ≡ magUnits x)
 
-larger-is : (a b : Float) → Plain a → Plain b → Larger a b (larger a b)
-larger-is a b p q =
-    go (lt a b) (λ e. lt-is a b (p .fit) (q .fit) (p .fin) (q .fin) (true-is (lt a b) e)) (not-lt-is a b (p .fit) (q .fit) (p .fin) (q .fin))
+larger-is : (a x : Float) → Plain a → T (fits binary64 x) → T (finite x) → Larger a x (larger a (absOf x))
+larger-is a x p f i = go (lt a (absOf x)) refl
   where
-    u : Parts false a
-    u = parts a false (p .sign)
+    b : Exactly (absOf x) false (magUnits x)
+    b = abs-exactly x f i
 
-    w : Parts false b
-    w = parts b false (q .sign)
-
-    less : (pa na pb nb ma mb : ℕ) → pa ≡ ma → na ≡ 0 → pb ≡ mb → nb ≡ 0 → pa + nb < pb + na → ma ≤ mb
-    less pa na pb nb ma mb i j k l h = omega arith
-
-    most : (pa na pb nb ma mb : ℕ) → pa ≡ ma → na ≡ 0 → pb ≡ mb → nb ≡ 0 → pb + na ≤ pa + nb → mb ≤ ma
-    most pa na pb nb ma mb i j k l h = omega arith
-
-    go : (c : Bool) → (c ≡ true → posUnits a + negUnits b < posUnits b + negUnits a) → (c ≡ false → posUnits b + negUnits a ≤ posUnits a + negUnits b)
-        → Larger a b (cond c b a)
-    go true f g =
+    go : (c : Bool) → lt a (absOf x) ≡ c → Larger a x (cond c (absOf x) a)
+    go true e =
         record {
-          plain = q;
-          left = less (posUnits a) (negUnits a) (posUnits b) (negUnits b) (magUnits a) (magUnits b) (u .0) (u .1) (w .0) (w .1) (f refl);
-          right = le-refl (magUnits b);
-          one = inr refl;
+          plain = record { fit = b .fit; fin = b .fin; sign = b .sign };
+          left = le-trans (le-of-lt (abs-over a x (p .fit) (p .fin) (p .sign) f i (true-is (lt a (absOf x)) e))) (le-of-eq (sym (b .mag)));
+          right = le-of-eq (sym (b .mag));
+          one = inr (b .mag);
         }
-    go false f g =
+    go false e =
         record {
           plain = p;
           left = le-refl (magUnits a);
-          right = most (posUnits a) (negUnits a) (posUnits b) (negUnits b) (magUnits a) (magUnits b) (u .0) (u .1) (w .0) (w .1) (g refl);
+          right = abs-upto a x (p .fit) (p .fin) (p .sign) f i e;
           one = inl refl;
         }
 
@@ -88,18 +77,16 @@ pub largest-from : (g : ℕ) (a : Float) (xs : List Float) → Plain a → Each 
 unfolding largestFrom
 largest-from g a [] p none = record { plain = p; from = le-refl (magUnits a); each = none; one = inl refl }
 largest-from g a (x ∷ xs) p (more u e) =
-    let b = abs-exactly x (u .fit) (u .fin) in
-    let l = larger-is a (absOf x) p (record { fit = b .fit; fin = b .fin; sign = b .sign }) in
+    let l = larger-is a x p (u .fit) (u .fin) in
     let r = largest-from g (larger a (absOf x)) xs (l .plain) e in
-    let m = magUnits (largestFrom (larger a (absOf x)) xs) in
     record {
       plain = r .plain;
       from = le-trans (l .left) (r .from);
-      each = more (record { fit = u .fit; fin = u .fin; le = le-trans (le-of-eq (sym (b .mag))) (le-trans (l .right) (r .from)) }) (r .each);
+      each = more (record { fit = u .fit; fin = u .fin; le = le-trans (l .right) (r .from) }) (r .each);
       one = elim (r .one) [
         | inl i ↦ elim (l .one) [
           | inl j ↦ inl (i ∙ j)
-          | inr j ↦ inr (here (sym (b .mag) ∙ sym j ∙ sym i))
+          | inr j ↦ inr (here (sym j ∙ sym i))
         ]
         | inr h ↦ inr (there h)
       ];

@@ -8,7 +8,6 @@ use native.Mathlib.Nat.{
   le-trans,
   le-of-eq,
   lt-of-le-of-lt,
-  zero-add,
   add-le-add,
   mul-comm,
   add-mul,
@@ -27,16 +26,17 @@ use lib.Pow.{pow-pos}
 use lib.Ieee.{Float, fin, binary64, fits, mul, div, unlike}
 use lib.Ieee.Scale.{finite}
 use Rattle.laws.specs.Whole.{gap}
-use Rattle.float.specs.Value.{U, magUnits, isMinus, posUnits, zero64}
+use Rattle.float.specs.Value.{U, magUnits, isMinus, posUnits}
 use Rattle.float.specs.Calls.{quotientsOf}
-use Rattle.float.specs.Laws.Exact.{parts}
+use Rattle.float.specs.Laws.Exact.{parts, unlike-same}
 use Rattle.float.specs.Laws.Error.{halfUlp, Rounded}
-use Rattle.float.specs.Laws.Near.{Near, near-self, near-zero, near-more, near-parts, near-mag-plain, mag-near-plain}
+use Rattle.float.specs.Laws.Near.{Near, near-self, near-mag-plain, mag-near-plain}
 use Rattle.float.specs.Laws.Arrays.{quotients-length}
 use Rattle.float.specs.Laws.Arithmetic.{div-fraction, fraction-rounded, mul-rounded}
 use Rattle.float.specs.Laws.Margin as sums
 use Rattle.root.specs.Root.{rooted}
-use Rattle.root.specs.Nearest.{root-from, root-upto, rooted-nearest}
+use Rattle.root.specs.Nearest.{rooted-nearest}
+use Rattle.root.specs.Laws.{root-from, root-upto}
 use Rattle.score.specs.Score.{products, dotOf}
 use Rattle.score.specs.Scale.{unitNorm}
 use Rattle.score.specs.Laws.Sample.{UpTo, Each, none, more}
@@ -87,10 +87,6 @@ sq q u = mul-rounded q q 2 (u .fit) (u .fit) (u .fin) (u .fin) (lit≤ tt) (lt-o
     room : (U + 2 ^ 1021) * (U + 2 ^ 1021) < 2 ^ 1076 * U
     room = lit≤ tt
 
-pub same-sign : (s : Bool) → unlike s s ≡ false
-same-sign false = refl
-same-sign true = refl
-
 record Square (t : Float) : Type 0 where
   plain : Plain t
   le : magUnits t ≤ U + 2 ^ 1026
@@ -100,8 +96,9 @@ square q u =
     let r = sq q u in
     let room : (U + 2 ^ 1021) * (U + 2 ^ 1021) + 2 ^ 1022 * U ≤ (U + 2 ^ 1026) * U = lit≤ tt in
     record {
-      plain = record { fit = r .fit; fin = r .fin; sign = r .sign ∙ same-sign (isMinus q) };
-      le = le-of-mul-le-mul-right (le-trans (r .hi) (le-trans (add-le-add (mul-le-mul (u .le) (u .le)) (le-refl (2 ^ 1022 * U))) room)) (pow-pos 1074);
+      plain = record { fit = r .fit; fin = r .fin; sign = r .sign ∙ unlike-same (isMinus q) };
+      le = le-of-mul-le-mul-right (le-trans (r .hi) (le-trans (add-le-add (mul-le-mul (u .le) (u .le)) (le-refl (2 ^ 1022 * U))) room))
+          (pow-pos 1074);
     }
 
 square-ge : (q : Float) → UpTo (U + 2 ^ 1021) q → U ≤ magUnits q + 2 ^ 1021 → U ≤ magUnits (mul binary64 q q) + 2 ^ 1024
@@ -163,7 +160,8 @@ squares-length [] = refl
 squares-length (q ∷ qs) = ap suc (squares-length qs)
 
 module _ (m : Float) (p : Plain m) (M : 0 < magUnits m) where
-  total-ge : (xs : List Float) → Each (UpTo (magUnits m)) xs → Has (magUnits m) xs → U ≤ total (products (quotientsOf xs m) (quotientsOf xs m)) + 2 ^ 1024
+  total-ge : (xs : List Float) → Each (UpTo (magUnits m)) xs → Has (magUnits m) xs
+      → U ≤ total (products (quotientsOf xs m) (quotientsOf xs m)) + 2 ^ 1024
   unfolding total products quotientsOf
   total-ge (x ∷ xs) (more u e) (here i) =
       let q = div binary64 x m in
@@ -276,35 +274,20 @@ module _ (xs : List Float) (m : Float) (p : Plain m) (M : 0 < magUnits m) (len :
   small : Each (UpTo (U + 2 ^ 1021)) qs
   small = over-all m p M xs e
 
-  sum-near : Near 1 (dotOf qs qs) (total (products qs qs)) 0 (2 ^ 1031)
-  sum-near =
-      let ts = products qs qs in
-      let l = length ts in
-      let w = 0 + halfUlp 6 * 1 in
-      let lw : l * w ≤ 24 * w = mul-le-mul-right w many in
-      let top : 24 * (U + 2 ^ 1026) + 24 * w < 2 ^ 1080 * 1 = lit≤ tt in
-      let all : 24 * w ≤ 2 ^ 1031 = lit≤ tt in
-      let r = sums.near-sum 1 0 zero64 ts 6 (lit≤ tt) (terms ts (squares qs small)) (near-zero 1)
-      (lt-of-le-of-lt (room (total ts) (l * w) (24 * (U + 2 ^ 1026)) (24 * w) tot lw) top) in
-      near-more (2 ^ 1031) (near-parts (total ts) 0 r (plain (total ts))) (le-trans (le-of-eq (zero-add (l * w))) (le-trans lw all))
-    where
-      many : length (products qs qs) ≤ 24
-      many = le-trans (le-of-eq (squares-length qs ∙ quotients-length xs m)) len
+  many : length (products qs qs) ≤ 24
+  many = le-trans (le-of-eq (squares-length qs ∙ quotients-length xs m)) len
 
-      tot : total (products qs qs) ≤ 24 * (U + 2 ^ 1026)
-      tot = le-trans (total-le (products qs qs) (squares qs small)) (mul-le-mul-right (U + 2 ^ 1026) many)
-
-      room : (s a b c : ℕ) → s ≤ b → a ≤ c → 0 + 0 + 0 + (s + 0) + a ≤ b + c
-      room s a b c h k = omega arith
-
-      plain : (s : ℕ) → 0 + s + 0 ≡ s + (0 + 0)
-      plain s = omega arith
+  most : total (products qs qs) ≤ 24 * (U + 2 ^ 1026)
+  most = le-trans (total-le (products qs qs) (squares qs small)) (mul-le-mul-right (U + 2 ^ 1026) many)
 
   sum-is : Sum (dotOf qs qs)
   sum-is =
-      sum-of (dotOf qs qs) (total (products qs qs)) sum-near (total-ge m p M xs e h)
-      (le-trans (total-le (products qs qs) (squares qs small))
-      (mul-le-mul-right (U + 2 ^ 1026) (le-trans (le-of-eq (squares-length qs ∙ quotients-length xs m)) len)))
+      let w = 0 + halfUlp 6 * 1 in
+      let top : 24 * (U + 2 ^ 1026) + 24 * w < 2 ^ 1080 * 1 = lit≤ tt in
+      let near : Near 1 (dotOf qs qs) (total (products qs qs)) 0 (2 ^ 1031) =
+      sums.near-sumOf 1 0 (products qs qs) 6 24 (2 ^ 1031) (lit≤ tt) (terms (products qs qs) (squares qs small)) many
+      (lt-of-le-of-lt (add-le-add most (le-refl (24 * w))) top) (lit≤ tt) in
+      sum-of (dotOf qs qs) (total (products qs qs)) near (total-ge m p M xs e h) most
 
   sum-pos : 0 < magUnits (dotOf qs qs)
   sum-pos = go (magUnits (dotOf qs qs)) U (2 ^ 1032) (sum-is .low) (lit≤ tt)

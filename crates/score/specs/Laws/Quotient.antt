@@ -18,8 +18,6 @@ use native.Mathlib.Nat.{
   mul-le-mul-left,
   mul-le-mul-right,
   lt-of-mul-lt-mul-right,
-  lt-of-not-le,
-  not-le-of-lt,
   eq-zero-or-pos,
 }
 use native.Mathlib.Omega.{arith}
@@ -29,11 +27,10 @@ use lib.Pow.{pow-pos}
 use lib.Ieee.{Float, nan, fin, binary64, fits, unlike, div, lt, le, eq}
 use lib.Ieee.Scale.{finite}
 use Rattle.laws.specs.Tests.{is-false, true-is, and-in, and-right}
-use Rattle.laws.specs.Order.{le-or-lt}
 use Rattle.float.specs.Value.{U, magUnits, isMinus, posUnits, negUnits, zero64}
 use Rattle.float.specs.Calls.{absOf, quotientsOf}
 use Rattle.float.specs.Laws.Exact.{parts}
-use Rattle.float.specs.Laws.Compare.{le-is, is-le, eq-zero, zero-eq}
+use Rattle.float.specs.Laws.Compare.{le-is, eq-zero, zero-eq}
 use Rattle.float.specs.Laws.Error.{Rounded}
 use Rattle.float.specs.Laws.Near.{abs-exactly}
 use Rattle.float.specs.Laws.Arithmetic.{div-fraction, fraction-rounded}
@@ -234,7 +231,8 @@ choice-is xs = go (eq (largestOf xs) zero64) refl
     zeros = record { number = 0; largest = zero64; scale = zero64 }
 
     go : (b : Bool) → eq (largestOf xs) zero64 ≡ b
-        → choiceFrom xs (cond b zeros (record { number = 0; largest = largestOf xs; scale = derivedScale xs })) ≡ chosen xs b (isNormal (derivedScale xs))
+        → choiceFrom xs (cond b zeros (record { number = 0; largest = largestOf xs; scale = derivedScale xs }))
+        ≡ chosen xs b (isNormal (derivedScale xs))
     go true h = unfold eq in refl
     go false h = rw h
 
@@ -298,95 +296,3 @@ zero-choice xs f n h k l =
     go true n h = refl
     go false true h = absurd (no-scale h)
     go false false h = absurd (no-division h)
-
--- ---- THE DIVISION: samples are divided only by 2 ^ -1000 or less, and the scale afterwards lies between 0.06 and 0.33
-pub record Division (m s : Float) : Type 0 where
-  pub plain : Plain m
-  pub above : 0 < magUnits m
-  pub tiny : magUnits m ≤ 2 ^ 74
-  pub low : 6 * U ≤ 100 * magUnits s
-  pub high : 100 * magUnits s ≤ 33 * U
-
--- a scale that is not normal has fewer than 2 ^ 52 units
-not-normal : (s : Float) → Plain s → isNormal s ≡ false → magUnits s < 2 ^ 52
-not-normal s p e = lt-of-not-le (λ h. subst T e (and-in (finite s) (le leastNormal64 (absOf s)) (p .fin) (reaches h)))
-  where
-    reaches : 2 ^ 52 ≤ magUnits s → T (le leastNormal64 (absOf s))
-    reaches h =
-        let a = abs-exactly s (p .fit) (p .fin) in
-        let w = parts (absOf s) false (a .sign) in
-        is-le leastNormal64 (absOf s) least-fits (a .fit) tt (a .fin)
-        (go (magUnits leastNormal64) (posUnits (absOf s)) (negUnits (absOf s)) (magUnits (absOf s)) (magUnits s) least-units (w .0) (w .1) (a .mag) h)
-      where
-        go : (l a b c m : ℕ) → l ≡ 2 ^ 52 → a ≡ c → b ≡ 0 → c ≡ m → 2 ^ 52 ≤ m → l + b ≤ a + 0
-        go l a b c m i j k n h = omega arith
-
-module _ (xs : List Float) (len : length xs ≤ 24) (e : Each Sample xs) (P : 0 < magUnits (largestOf xs)) where
-  largest-tiny : isNormal (derivedScale xs) ≡ false → magUnits (largestOf xs) ≤ 2 ^ 74
-  largest-tiny n =
-      let d = scale-derived xs len e P in
-      let g = magUnits (largestOf xs) in
-      let s = magUnits (derivedScale xs) in
-      elim (le-or-lt 32 s) [
-        | inl h ↦ some g s (d .keeps h) (not-normal (derivedScale xs) (d .plain) n)
-        | inr h ↦ few g (λ l. not-le-of-lt h (d .large l))
-      ]
-    where
-      some : (g s : ℕ) → 10 * g ≤ 159 * s → s < 2 ^ 52 → g ≤ 2 ^ 74
-      some g s h k = omega arith
-
-      few : (g : ℕ) → (2 ^ 20 ≤ g → ⊥) → g ≤ 2 ^ 74
-      few g h = elim (le-or-lt (2 ^ 20) g) [ inl l ↦ absurd (h l) | inr l ↦ omega arith ]
-
-  scale-between : (6 * U ≤ 100 * magUnits (derivedScale (divided xs len e P))) × (100 * magUnits (derivedScale (divided xs len e P)) ≤ 33 * U)
-  scale-between =
-      let zs = divided xs len e P in
-      let n = over-length xs len e P in
-      let a = over-samples xs len e P in
-      let t = over-top xs len e P in
-      let Q : 0 < magUnits (largestOf zs) = lt-of-lt-of-le (lit≤ tt) t in
-      let d = scale-derived zs n a Q in
-      let s = magUnits (derivedScale zs) in
-      let g = magUnits (largestOf zs) in
-      let most : g ≤ U + 2 ^ 1021 = largest-le (U + 2 ^ 1021) zs (over-small xs len e P) (met zs n a Q) in
-      let fine : 100 * 2 ^ 1021 ≤ U = lit≤ tt in
-      let wide : 1000 ≤ U = lit≤ tt in
-      (low g s U (2 ^ 1021) (over-near xs len e P) (d .keeps (d .large t)) fine, high g s U (2 ^ 1021) most (d .under) fine wide)
-    where
-      low : (g s u c : ℕ) → u ≤ g + c → 10 * g ≤ 159 * s → 100 * c ≤ u → 6 * u ≤ 100 * s
-      low g s u c h k l = omega arith
-
-      high : (g s u c : ℕ) → g ≤ u + c → 1000 * s ≤ 323 * g + 2000 → 100 * c ≤ u → 1000 ≤ u → 100 * s ≤ 33 * u
-      high g s u c h k l m = omega arith
-
-  division : isNormal (derivedScale xs) ≡ false → Division (largestOf xs) (lowerScale (divided xs len e P) .scale)
-  division n =
-      let zs = divided xs len e P in
-      let Q : 0 < magUnits (largestOf zs) = lt-of-lt-of-le (lit≤ tt) (over-top xs len e P) in
-      let is = scale-is zs (over-length xs len e P) (over-samples xs len e P) Q in
-      subst (Division (largestOf xs)) (sym is)
-      (record { plain = top xs len e .plain; above = P; tiny = largest-tiny n; low = scale-between .0; high = scale-between .1 })
-
-pub divide-is : (xs : List Float) → AllFit xs → length xs ≤ 24 → sampleNumber xs ≡ 0 → (m s : Float) → choiceOf xs ≡ Divide m s → Division m s
-divide-is xs f len n m s h =
-    let e = samples-are xs f n in
-    go e (eq (largestOf xs) zero64) (isNormal (derivedScale xs)) (not-zero (largestOf xs) (top xs len e .plain)) refl (sym (choice-is xs) ∙ h)
-  where
-    same : (a b : Float) → Divide a b ≡ Divide m s → Division a b → Division m s
-    same a b i d =
-        let u : a ≡ m = cc in
-        let w : b ≡ s = cc in
-        subst (λ (z : Float). Division z s) u (subst (Division a) w d)
-
-    no-zero : Zero ≡ Divide m s → ⊥
-    no-zero h = let z : _≡_ {A = ℕ} 0 1 = cc in omega arith
-
-    no-scale : {t : Float} → Scale t ≡ Divide m s → ⊥
-    no-scale h = let z : _≡_ {A = ℕ} 0 1 = cc in omega arith
-
-    go : Each Sample xs → (z n : Bool) → (z ≡ false → 0 < magUnits (largestOf xs)) → isNormal (derivedScale xs) ≡ n → chosen xs z n ≡ Divide m s
-        → Division m s
-    go e true n P i h = absurd (no-zero h)
-    go e false true P i h = absurd (no-scale h)
-    go e false false P i h =
-        same (largestOf xs) (lowerScale (quotientsOf xs (largestOf xs)) .scale) h (division xs len e (P refl) i)

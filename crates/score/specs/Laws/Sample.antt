@@ -2,19 +2,18 @@
 use mathlib.Core.Path.{_≡_, refl, sym, ap, _∙_}
 use mathlib.Core.Bool.{Bool, true, false, cond, not, _||_, true≢false}
 use mathlib.Core.List.{List, [], _∷_}
-use Prim.Native.Nat.{ℕ, zero, suc, _+_, _*_, _≤_, _<_}
+use Prim.Native.Nat.{ℕ, zero, suc, _*_, _≤_, _<_}
 use native.Mathlib.Nat.{le-trans, le-of-eq, not-suc-le-zero, le-of-suc-le-suc}
 use native.Mathlib.Omega.{arith}
 use lib.Dec.{T, eqb}
 use lib.ListN.{length, getD}
-use lib.Ieee.{Float, nan, binary64, fits, lt}
+use lib.Ieee.{Float, nan, binary64, fits}
 use lib.Ieee.Scale.{finite}
-use Rattle.laws.specs.Tests.{is-false, is-true}
-use Rattle.float.specs.Value.{U, magUnits, isMinus, posUnits, negUnits}
-use Rattle.float.specs.Calls.{absOf, million64, quotientsOf}
-use Rattle.float.specs.Laws.Exact.{parts}
-use Rattle.float.specs.Laws.Compare.{lt-is, not-lt-is}
-use Rattle.float.specs.Laws.Near.{abs-exactly}
+use Rattle.laws.specs.Tests.{is-true}
+use Rattle.float.specs.Value.{U, magUnits}
+use Rattle.float.specs.Calls.{million64, quotientsOf}
+use Rattle.float.specs.Laws.Near.{abs-upto, upto-abs}
+use Rattle.float.specs.Laws.Rounding.{million-fits, million-units}
 use Rattle.score.specs.Samples.{limit64, unbounded, exceeds, some, sampleNumber, isScale, scaleNumber}
 
 -- ---- doubles as an array holds them
@@ -39,32 +38,6 @@ each-at P (x ∷ xs) (more p e) (suc k) h = each-at P xs e k (le-of-suc-le-suc h
 pub each-map : (P Q : Float → Type 0) (xs : List Float) → ((x : Float) → P x → Q x) → Each P xs → Each Q xs
 each-map P Q [] f none = none
 each-map P Q (x ∷ xs) f (more p e) = more (f x p) (each-map P Q xs f e)
-
--- ---- |x| > l
-pub exceeds-not : (l x : Float) → T (fits binary64 l) → T (finite l) → isMinus l ≡ false → T (fits binary64 x) → T (finite x)
-    → exceeds l x ≡ false → magUnits x ≤ magUnits l
-exceeds-not l x fl il sl fx ix h =
-    let a = abs-exactly x fx ix in
-    let p = parts l false sl in
-    let q = parts (absOf x) false (a .sign) in
-    go (posUnits l) (negUnits l) (posUnits (absOf x)) (negUnits (absOf x)) (magUnits l) (magUnits (absOf x)) (magUnits x)
-    (p .0) (p .1) (q .0) (q .1) (a .mag) (not-lt-is l (absOf x) fl (a .fit) il (a .fin) h)
-  where
-    go : (pl nl px nx ml mx m : ℕ) → pl ≡ ml → nl ≡ 0 → px ≡ mx → nx ≡ 0 → mx ≡ m → px + nl ≤ pl + nx → m ≤ ml
-    go pl nl px nx ml mx m a b c d e h = omega arith
-
-pub not-exceeds : (l x : Float) → T (fits binary64 l) → T (finite l) → isMinus l ≡ false → T (fits binary64 x) → T (finite x)
-    → magUnits x ≤ magUnits l → exceeds l x ≡ false
-not-exceeds l x fl il sl fx ix h =
-    let a = abs-exactly x fx ix in
-    let p = parts l false sl in
-    let q = parts (absOf x) false (a .sign) in
-    is-false (lt l (absOf x))
-    (λ t. go (posUnits l) (negUnits l) (posUnits (absOf x)) (negUnits (absOf x)) (magUnits l) (magUnits (absOf x)) (magUnits x)
-    (p .0) (p .1) (q .0) (q .1) (a .mag) h (lt-is l (absOf x) fl (a .fit) il (a .fin) t))
-  where
-    go : (pl nl px nx ml mx m : ℕ) → pl ≡ ml → nl ≡ 0 → px ≡ mx → nx ≡ 0 → mx ≡ m → m ≤ ml → pl + nx < px + nl → ⊥
-    go pl nl px nx ml mx m a b c d e h k = omega arith
 
 -- ---- a test that none passes
 or-none : (a b : Bool) → a || b ≡ false → (a ≡ false) × (b ≡ false)
@@ -93,14 +66,6 @@ limit-fits : T (fits binary64 limit64)
 unfolding fits
 limit-fits = tt
 
-million-fits : T (fits binary64 million64)
-unfolding fits
-million-fits = tt
-
-million-units : magUnits million64 ≡ 1000000 * U
-unfolding magUnits
-million-units = refl
-
 abbrev pub Sample : Float → Type 0
 Sample = UpTo (magUnits limit64)
 
@@ -119,7 +84,7 @@ samples-are xs f e = let b = both (some unbounded xs) (some (exceeds limit64) xs
         let a = some-cons unbounded x xs u in
         let b = some-cons (exceeds limit64) x xs l in
         let i = bounded-finite x (a .0) in
-        more (record { fit = f 0; fin = i; le = exceeds-not limit64 x limit-fits tt refl (f 0) i (b .0) })
+        more (record { fit = f 0; fin = i; le = abs-upto limit64 x limit-fits tt refl (f 0) i (b .0) })
         (go xs (λ (k : ℕ). f (suc k)) (a .1) (b .1))
 
 pub sample-number-zero : (xs : List Float) → Each Sample xs → sampleNumber xs ≡ 0
@@ -129,7 +94,7 @@ sample-number-zero xs e =
     (some-none unbounded xs (each-map Sample (λ (x : Float). unbounded x ≡ false) xs (λ x s. ap not (is-true (finite x) (s .fin))) e))
     ∙ ap (λ (b : Bool). cond b 2 0)
     (some-none (exceeds limit64) xs
-    (each-map Sample (λ (x : Float). exceeds limit64 x ≡ false) xs (λ x s. not-exceeds limit64 x limit-fits tt refl (s .fit) (s .fin) (s .le)) e))
+    (each-map Sample (λ (x : Float). exceeds limit64 x ≡ false) xs (λ x s. upto-abs limit64 x limit-fits tt refl (s .fit) (s .fin) (s .le)) e))
 
 -- ---- what passes at a scale
 pub scale-number-zero : (xs : List Float) (s : Float) → T (isScale s) → sampleNumber xs ≡ 0 → Each (UpTo (1000000 * U)) (quotientsOf xs s)
@@ -139,7 +104,7 @@ scale-number-zero xs s t n e =
     let q : some (exceeds million64) (quotientsOf xs s) ≡ false =
     some-none (exceeds million64) (quotientsOf xs s)
     (each-map (UpTo (1000000 * U)) (λ (x : Float). exceeds million64 x ≡ false) (quotientsOf xs s)
-    (λ x u. not-exceeds million64 x million-fits tt refl (u .fit) (u .fin) (le-trans (u .le) (le-of-eq (sym million-units)))) e) in
+    (λ x u. upto-abs million64 x million-fits tt refl (u .fit) (u .fin) (le-trans (u .le) (le-of-eq (sym million-units)))) e) in
     go (isScale s) (sampleNumber xs) (some (exceeds million64) (quotientsOf xs s)) (is-true (isScale s) t) n q
   where
     go : (a : Bool) (n : ℕ) (b : Bool) → a ≡ true → n ≡ 0 → b ≡ false → cond a (cond (eqb n 0) (cond b 4 0) n) 3 ≡ 0

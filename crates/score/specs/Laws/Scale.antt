@@ -1,5 +1,5 @@
--- How large the scale is that comes of a largest magnitude and a norm: one 15.9th of the largest magnitude at least, once it is 32 units or more,
--- and 0.323 of it at most, but for two units. Assumes nothing.
+-- How large the scale is that comes of a largest magnitude and a norm: one 15.9th of the largest magnitude at least, once it is 32 units or more.
+-- Assumes nothing.
 use mathlib.Core.Path.{_≡_, refl, sym, ap, ap₂, _∙_, subst}
 use mathlib.Core.Bool.{Bool, false}
 use Prim.Native.Nat.{ℕ, _+_, _*_, _^_, _≤_, _<_}
@@ -13,6 +13,7 @@ use native.Mathlib.Nat.{
   mul-comm,
   mul-assoc,
   mul-left-comm,
+  mul-add,
   add-mul,
   one-mul,
   mul-le-mul,
@@ -69,9 +70,6 @@ at-least a c u h = omega arith
 at-most : (a c u : ℕ) → c * 2 ^ 53 ≤ a * 2 ^ 53 + a + 2 ^ 52 * u → c ≤ 2 * a + u
 at-most a c u h = omega arith
 
-at-most-finely : (a c u : ℕ) → c * 2 ^ 53 ≤ a * 2 ^ 53 + a + 2 ^ 52 * u → 10000 * c ≤ 10001 * a + 5001 * u
-at-most-finely a c u h = omega arith
-
 pub cancel : (i j k x y u : ℕ) → 0 < u → i * (x * u) ≤ j * (y * u) + k * u → i * x ≤ j * y + k
 cancel i j k x y u P h =
     le-of-mul-le-mul-right
@@ -82,14 +80,21 @@ cancel i j k x y u P h =
 cancel1 : (j k x y u : ℕ) → 0 < u → x * u ≤ j * (y * u) + k * u → x ≤ j * y + k
 cancel1 j k x y u P h = le-trans (le-of-eq (sym (one-mul x))) (cancel 1 j k x y u P (le-trans (le-of-eq (one-mul (x * u))) h))
 
--- a bound on a factor, as one on the product: x times what is i / j of u or more, or at most that
-times-low : (i j x y u : ℕ) → i * u ≤ j * y → i * (x * u) ≤ j * (x * y)
-times-low i j x y u h =
-    le-trans (le-of-eq (mul-left-comm i x u)) (le-trans (mul-le-mul-left x h) (le-of-eq (mul-left-comm x j y)))
-
-times-high : (i j x y u : ℕ) → j * y ≤ i * u → j * (x * y) ≤ i * (x * u)
-times-high i j x y u h =
-    le-trans (le-of-eq (mul-left-comm j x y)) (le-trans (mul-le-mul-left x h) (le-of-eq (mul-left-comm x i u)))
+-- z is x * y, rounded, in units of u, for a y that is i / j or more: what it is to x
+product-low : (i j x y z u : ℕ) → 0 < u → i * u ≤ j * y → x * y * 2 ^ 53 ≤ z * u * 2 ^ 53 + x * y + 2 ^ 52 * u
+    → 999 * i * x ≤ 1000 * j * z + 500 * j
+product-low i j x y z u P f c =
+    cancel (999 * i) (1000 * j) (500 * j) x z u P
+    (le-trans (le-of-eq (mul-assoc 999 i (x * u)))
+    (le-trans (mul-le-mul-left 999 (le-trans (le-of-eq (mul-left-comm i x u)) (mul-le-mul-left x f)))
+    (le-trans (le-of-eq (ap (λ (n : ℕ). 999 * n) (mul-left-comm x j y) ∙ mul-left-comm 999 j (x * y)))
+    (le-trans (mul-le-mul-left j (at-least (x * y) (z * u) u c)) (le-of-eq spread)))))
+  where
+    spread : j * (1000 * (z * u) + 500 * u) ≡ 1000 * j * (z * u) + 500 * j * u
+    spread =
+        mul-add j (1000 * (z * u)) (500 * u)
+        ∙ ap₂ (λ (m n : ℕ). m + n) (mul-left-comm j 1000 (z * u) ∙ sym (mul-assoc 1000 j (z * u)))
+        (mul-left-comm j 500 u ∙ sym (mul-assoc 500 j u))
 
 -- ---- a scale derived from a largest magnitude of g units
 pub record Derived (g : ℕ) (s : Float) : Type 0 where
@@ -97,7 +102,6 @@ pub record Derived (g : ℕ) (s : Float) : Type 0 where
   pub top : magUnits s ≤ 2 ^ 2060
   pub keeps : 32 ≤ magUnits s → 10 * g ≤ 159 * magUnits s
   pub large : 2 ^ 20 ≤ g → 32 ≤ magUnits s
-  pub under : 1000 * magUnits s ≤ 323 * g + 2000
 
 -- ALPHA * m, then times n, then over the root of 24
 module _ (m n : Float) (p : Plain m) (L : magUnits m ≤ magUnits limit64) (q : Norm n) where
@@ -128,31 +132,23 @@ module _ (m n : Float) (p : Plain m) (L : magUnits m ≤ magUnits limit64) (q : 
   m-le : magUnits m ≤ 2 ^ 2040
   m-le = le-trans L limit-le
 
-  first-is : Close first false (magUnits alpha64 * magUnits m) U
+  first-is : Close first false (magUnits m * magUnits alpha64) U
   first-is =
       let room : U * 2 ^ 2040 < 2 ^ 2097 * U = lit≤ tt in
-      subst (λ (s : Bool). Close first s (magUnits alpha64 * magUnits m) U) (ap (unlike false) (p .sign))
-      (mul-close alpha64 m (alpha-is .plain .fit) (p .fit) tt (p .fin) (lt-of-le-of-lt (mul-le-mul alpha-le m-le) room))
+      subst (λ (v : ℕ). Close first false v U) (mul-comm (magUnits alpha64) (magUnits m))
+      (subst (λ (s : Bool). Close first s (magUnits alpha64 * magUnits m) U) (ap (unlike false) (p .sign))
+      (mul-close alpha64 m (alpha-is .plain .fit) (p .fit) tt (p .fin) (lt-of-le-of-lt (mul-le-mul alpha-le m-le) room)))
 
-  first-low : 321 * magUnits m ≤ 1000 * magUnits first + 500
-  first-low =
-      cancel 321 1000 500 (magUnits m) (magUnits first) U (pow-pos 1074)
-      (go (magUnits m * U) (magUnits alpha64 * magUnits m) (magUnits first * U) U
-      (le-trans (times-low 3217 10000 (magUnits m) (magUnits alpha64) U (alpha-is .lo))
-      (le-of-eq (ap (λ (z : ℕ). 10000 * z) (mul-comm (magUnits m) (magUnits alpha64)))))
-      (at-least (magUnits alpha64 * magUnits m) (magUnits first * U) U (first-is .lo)))
-    where
-      go : (mu am c u : ℕ) → 3217 * mu ≤ 10000 * am → 999 * am ≤ 1000 * c + 500 * u → 321 * mu ≤ 1000 * c + 500 * u
-      go mu am c u h k = omega arith
+  first-low : 999 * 3217 * magUnits m ≤ 1000 * 10000 * magUnits first + 500 * 10000
+  first-low = product-low 3217 10000 (magUnits m) (magUnits alpha64) (magUnits first) U (pow-pos 1074) (alpha-is .lo) (first-is .lo)
 
   first-high : magUnits first ≤ 2 ^ 2042
   first-high =
       let room : 2 * 2 ^ 2040 + 1 ≤ 2 ^ 2042 = lit≤ tt in
       le-trans
       (cancel1 2 1 (magUnits first) (magUnits m) U (pow-pos 1074)
-      (le-trans (at-most (magUnits alpha64 * magUnits m) (magUnits first * U) U (first-is .hi))
-      (add-le-add (mul-le-mul-left 2 (le-trans (mul-le-mul-right (magUnits m) alpha-le) (le-of-eq (mul-comm U (magUnits m)))))
-      (le-of-eq (sym (one-mul U))))))
+      (le-trans (at-most (magUnits m * magUnits alpha64) (magUnits first * U) U (first-is .hi))
+      (add-le-add (mul-le-mul-left 2 (mul-le-mul-left (magUnits m) alpha-le)) (le-of-eq (sym (one-mul U))))))
       (le-trans (add-le-add (mul-le-mul-left 2 m-le) (le-refl 1)) room)
 
   second-is : Close second false (magUnits first * magUnits n) U
@@ -161,15 +157,8 @@ module _ (m n : Float) (p : Plain m) (L : magUnits m ≤ magUnits limit64) (q : 
       subst (λ (s : Bool). Close second s (magUnits first * magUnits n) U) (ap₂ unlike (first-is .sign) (q .plain .sign))
       (mul-close first n (first-is .fit) (q .plain .fit) (first-is .fin) (q .plain .fin) (lt-of-le-of-lt (mul-le-mul first-high n-le) room))
 
-  second-low : 998 * magUnits first ≤ 1000 * magUnits second + 500
-  second-low =
-      cancel 998 1000 500 (magUnits first) (magUnits second) U (pow-pos 1074)
-      (go (magUnits first * U) (magUnits first * magUnits n) (magUnits second * U) U
-      (times-low 999 1000 (magUnits first) (magUnits n) U (q .low))
-      (at-least (magUnits first * magUnits n) (magUnits second * U) U (second-is .lo)))
-    where
-      go : (mu am c u : ℕ) → 999 * mu ≤ 1000 * am → 999 * am ≤ 1000 * c + 500 * u → 998 * mu ≤ 1000 * c + 500 * u
-      go mu am c u h k = omega arith
+  second-low : 999 * 999 * magUnits first ≤ 1000 * 1000 * magUnits second + 500 * 1000
+  second-low = product-low 999 1000 (magUnits first) (magUnits n) (magUnits second) U (pow-pos 1074) (q .low) (second-is .lo)
 
   second-high : magUnits second ≤ 2 ^ 2048
   second-high =
@@ -199,7 +188,9 @@ module _ (m n : Float) (p : Plain m) (L : magUnits m ≤ magUnits limit64) (q : 
   scale-low =
       cancel 999 4900 2450 (magUnits second) (magUnits scale) U (pow-pos 1074)
       (go (magUnits second * U) (magUnits scale * magUnits root24) (magUnits scale * U) (magUnits root24) U
-      (times-high 4899 1000 (magUnits scale) (magUnits root24) U (root24-const .hi)) (root24-const .hi)
+      (le-trans (le-of-eq (mul-left-comm 1000 (magUnits scale) (magUnits root24)))
+      (le-trans (mul-le-mul-left (magUnits scale) (root24-const .hi)) (le-of-eq (mul-left-comm (magUnits scale) 4899 U))))
+      (root24-const .hi)
       (at-least (magUnits second * U) (magUnits scale * magUnits root24) (magUnits root24) (scale-is .lo)))
     where
       go : (a sr su r u : ℕ) → 1000 * sr ≤ 4899 * su → 1000 * r ≤ 4899 * u → 999 * a ≤ 1000 * sr + 500 * r → 999 * a ≤ 4900 * su + 2450 * u
@@ -214,37 +205,6 @@ module _ (m n : Float) (p : Plain m) (L : magUnits m ≤ magUnits limit64) (q : 
       (add-le-add (mul-le-mul-left 2 (mul-le-mul-left (magUnits second) root-ge)) (le-of-eq (sym (one-mul (magUnits root24)))))))
       (le-trans (add-le-add (mul-le-mul-left 2 second-high) (le-refl 1)) room)
 
-  -- the same from above
-  first-up : 10000 * magUnits first ≤ 3220 * magUnits m + 5001
-  first-up =
-      cancel 10000 3220 5001 (magUnits first) (magUnits m) U (pow-pos 1074)
-      (go (magUnits m * U) (magUnits alpha64 * magUnits m) (magUnits first * U) U
-      (le-trans (le-of-eq (ap (λ (z : ℕ). 10000 * z) (mul-comm (magUnits alpha64) (magUnits m))))
-      (times-high 3219 10000 (magUnits m) (magUnits alpha64) U (alpha-is .hi)))
-      (at-most-finely (magUnits alpha64 * magUnits m) (magUnits first * U) U (first-is .hi)))
-    where
-      go : (mu am c u : ℕ) → 10000 * am ≤ 3219 * mu → 10000 * c ≤ 10001 * am + 5001 * u → 10000 * c ≤ 3220 * mu + 5001 * u
-      go mu am c u h k = omega arith
-
-  second-up : 10000 * magUnits second ≤ 49070 * magUnits first + 5001
-  second-up =
-      cancel 10000 49070 5001 (magUnits second) (magUnits first) U (pow-pos 1074)
-      (go (magUnits first * U) (magUnits first * magUnits n) (magUnits second * U) U (times-high 157 32 (magUnits first) (magUnits n) U (q .high))
-      (at-most-finely (magUnits first * magUnits n) (magUnits second * U) U (second-is .hi)))
-    where
-      go : (mu am c u : ℕ) → 32 * am ≤ 157 * mu → 10000 * c ≤ 10001 * am + 5001 * u → 10000 * c ≤ 49070 * mu + 5001 * u
-      go mu am c u h k = omega arith
-
-  scale-up : 10000 * magUnits scale ≤ 2043 * magUnits second + 5001
-  scale-up =
-      cancel 10000 2043 5001 (magUnits scale) (magUnits second) (magUnits root24) (lt-of-lt-of-le (pow-pos 1074) root-ge)
-      (go (magUnits second * U) (magUnits second * magUnits root24) (magUnits scale * magUnits root24) (magUnits root24)
-      (times-low 4898 1000 (magUnits second) (magUnits root24) U (root24-const .lo))
-      (at-most-finely (magUnits second * U) (magUnits scale * magUnits root24) (magUnits root24) (scale-is .hi)))
-    where
-      go : (a pr sr r : ℕ) → 4898 * a ≤ 1000 * pr → 10000 * sr ≤ 10001 * a + 5001 * r → 10000 * sr ≤ 2043 * pr + 5001 * r
-      go a pr sr r h k = omega arith
-
   pub derived : Derived (magUnits m) (scaleWith m n)
   derived =
       let room : 2 ^ 2050 ≤ 2 ^ 2060 = lit≤ tt in
@@ -253,17 +213,15 @@ module _ (m n : Float) (p : Plain m) (L : magUnits m ≤ magUnits limit64) (q : 
         top = le-trans scale-high room;
         keeps = keeps (magUnits m) (magUnits first) (magUnits second) (magUnits scale) first-low second-low scale-low;
         large = large (magUnits m) (magUnits first) (magUnits second) (magUnits scale) first-low second-low scale-low;
-        under = under (magUnits m) (magUnits first) (magUnits second) (magUnits scale) first-up second-up scale-up;
       }
     where
-      keeps : (m a b s : ℕ) → 321 * m ≤ 1000 * a + 500 → 998 * a ≤ 1000 * b + 500 → 999 * b ≤ 4900 * s + 2450 → 32 ≤ s → 10 * m ≤ 159 * s
+      keeps : (m a b s : ℕ) → 999 * 3217 * m ≤ 1000 * 10000 * a + 500 * 10000 → 999 * 999 * a ≤ 1000 * 1000 * b + 500 * 1000
+          → 999 * b ≤ 4900 * s + 2450 → 32 ≤ s → 10 * m ≤ 159 * s
       keeps m a b s x y z h = omega arith
 
-      large : (m a b s : ℕ) → 321 * m ≤ 1000 * a + 500 → 998 * a ≤ 1000 * b + 500 → 999 * b ≤ 4900 * s + 2450 → 2 ^ 20 ≤ m → 32 ≤ s
+      large : (m a b s : ℕ) → 999 * 3217 * m ≤ 1000 * 10000 * a + 500 * 10000 → 999 * 999 * a ≤ 1000 * 1000 * b + 500 * 1000
+          → 999 * b ≤ 4900 * s + 2450 → 2 ^ 20 ≤ m → 32 ≤ s
       large m a b s x y z h = omega arith
-
-      under : (m a b s : ℕ) → 10000 * a ≤ 3220 * m + 5001 → 10000 * b ≤ 49070 * a + 5001 → 10000 * s ≤ 2043 * b + 5001 → 1000 * s ≤ 323 * m + 2000
-      under m a b s x y z = omega arith
 
 -- ---- the second scale is no smaller
 pub record Kept (g : ℕ) (s : Float) : Type 0 where
@@ -282,10 +240,8 @@ kept-second {g} {s} d h =
     subst (λ (b : Bool). Close z b (magUnits s * magUnits ratio64) U) (ap (λ (b : Bool). unlike b false) (d .plain .sign))
     (mul-close s ratio64 (d .plain .fit) (ratio-is .plain .fit) (d .plain .fin) tt
     (lt-of-le-of-lt (mul-le-mul (d .top) (twice (magUnits ratio64) U (ratio-is .hi))) room)) in
-    let low : 112 * magUnits s ≤ 100 * magUnits z + 51 =
-    cancel 112 100 51 (magUnits s) (magUnits z) U (pow-pos 1074)
-    (go (magUnits s * U) (magUnits s * magUnits ratio64) (magUnits z * U) U (times-low 113 100 (magUnits s) (magUnits ratio64) U (ratio-is .lo))
-    (at-least (magUnits s * magUnits ratio64) (magUnits z * U) U (c .lo))) in
+    let low : 999 * 113 * magUnits s ≤ 1000 * 100 * magUnits z + 500 * 100 =
+    product-low 113 100 (magUnits s) (magUnits ratio64) (magUnits z) U (pow-pos 1074) (ratio-is .lo) (c .lo) in
     let more : magUnits s ≤ magUnits z = grows (magUnits s) (magUnits z) low h in
     record {
       plain = record { fit = c .fit; fin = c .fin; sign = c .sign };
@@ -296,8 +252,5 @@ kept-second {g} {s} d h =
     twice : (a u : ℕ) → 100 * a ≤ 115 * u → a ≤ 2 * u
     twice a u h = omega arith
 
-    go : (su sr c u : ℕ) → 113 * su ≤ 100 * sr → 999 * sr ≤ 1000 * c + 500 * u → 112 * su ≤ 100 * c + 51 * u
-    go su sr c u h k = omega arith
-
-    grows : (s z : ℕ) → 112 * s ≤ 100 * z + 51 → 32 ≤ s → s ≤ z
+    grows : (s z : ℕ) → 999 * 113 * s ≤ 1000 * 100 * z + 500 * 100 → 32 ≤ s → s ≤ z
     grows s z l h = omega arith

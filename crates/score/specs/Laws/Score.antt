@@ -35,18 +35,18 @@ use Rattle.laws.specs.Tests.{is-true}
 use Rattle.laws.specs.Whole.{gap, posPart, negPart}
 use Rattle.float.specs.Value.{U, magUnits, isMinus, posUnits, negUnits, zero64}
 use Rattle.float.specs.Calls.{sumFrom}
-use Rattle.float.specs.Laws.Exact.{zero-fits, zero-mag, mag-parts, ofInt-whole}
+use Rattle.float.specs.Laws.Exact.{zero-fits, zero-mag, mag-parts, ofInt-whole, unlike-same}
 use Rattle.float.specs.Laws.Error.{halfUlp}
 use Rattle.float.specs.Laws.Near.{near-self, near-mag-plain}
 use Rattle.float.specs.Laws.Arithmetic.{near-add, mul-rounded, div-fraction, fraction-rounded, add-grows}
 use Rattle.float.specs.Laws.Relative.{mul-close}
 use Rattle.root.specs.Root.{rooted}
-use Rattle.root.specs.Nearest.{root-from, rooted-nearest}
+use Rattle.root.specs.Nearest.{rooted-nearest}
+use Rattle.root.specs.Laws.{root-from}
 use Rattle.score.specs.Samples.{limit64, sampleNumber}
 use Rattle.score.specs.Score.{products, dotOf, doublesOf, scoreOf, tOf}
 use Rattle.score.specs.Laws.Sample.{AllFit, UpTo, Each, none, more, Sample, samples-are}
 use Rattle.score.specs.Laws.Largest.{Plain, above-zero}
-use Rattle.score.specs.Laws.Norm.{same-sign}
 use Rattle.score.specs.Laws.Scale.{at-least, cancel}
 
 -- ---- a whole number of 32 bits as a double
@@ -96,6 +96,13 @@ module _ (t b : ℕ) (B : b ≤ 1023) (H : halfUlp b ≤ t) where
       go : (pa na px nx ma mx e : ℕ) → ma ≡ pa + na → mx ≡ px + nx → ma ≤ c → mx ≤ t → e ≤ t → gap (pa + px) (na + nx) + (0 + 0 + e * 1) ≤ c + 2 * t
       go pa na px nx ma mx e i j k l m = omega arith
 
+  -- of z, which is 2 t more than l, there is room for the next term, and then for the rest
+  now : (c l z p : ℕ) → z ≡ l + 2 * t → c + z < p → c + t < p
+  now c l z p i h = omega arith
+
+  later : (c l z p : ℕ) → z ≡ l + 2 * t → c + z < p → c + 2 * t + l < p
+  later c l z p i h = omega arith
+
   sum-small : (acc : Float) (ts : List Float) (c : ℕ) → UpTo c acc → Each (UpTo t) ts → c + length ts * (2 * t) < 2 ^ (b + 1074)
       → UpTo (c + length ts * (2 * t)) (sumFrom acc ts)
   unfolding sumFrom
@@ -106,41 +113,34 @@ module _ (t b : ℕ) (B : b ≤ 1023) (H : halfUlp b ≤ t) where
   sum-small acc (x ∷ xs) c u (more w e) h =
       let l = length xs * (2 * t) in
       let s : suc (length xs) * (2 * t) ≡ l + 2 * t = suc-mul (length xs) (2 * t) in
-      let r = sum-small (add binary64 acc x) xs (c + 2 * t) (add-small acc x c u w (now l (suc (length xs) * (2 * t)) (2 ^ (b + 1074)) s h)) e
-      (later l (suc (length xs) * (2 * t)) (2 ^ (b + 1074)) s h) in
+      let r = sum-small (add binary64 acc x) xs (c + 2 * t) (add-small acc x c u w (now c l (suc (length xs) * (2 * t)) (2 ^ (b + 1074)) s h)) e
+      (later c l (suc (length xs) * (2 * t)) (2 ^ (b + 1074)) s h) in
       record { fit = r .fit; fin = r .fin; le = le-trans (r .le) (le-of-eq (same l (suc (length xs) * (2 * t)) s)) }
     where
-      now : (l z p : ℕ) → z ≡ l + 2 * t → c + z < p → c + t < p
-      now l z p i h = omega arith
-
-      later : (l z p : ℕ) → z ≡ l + 2 * t → c + z < p → c + 2 * t + l < p
-      later l z p i h = omega arith
-
       same : (l z : ℕ) → z ≡ l + 2 * t → c + 2 * t + l ≡ c + z
       same l z i = omega arith
 
   -- where none is negative, the sum is no smaller than any of them
   sum-grows : (acc : Float) (ts : List Float) (c : ℕ) → UpTo c acc → isMinus acc ≡ false → Each (UpTo t) ts → Each Plain ts
       → c + length ts * (2 * t) < 2 ^ (b + 1074)
-      → (isMinus (sumFrom acc ts) ≡ false) × (magUnits acc ≤ magUnits (sumFrom acc ts)) × Each (λ (x : Float). magUnits x ≤ magUnits (sumFrom acc ts)) ts
+      → (isMinus (sumFrom acc ts) ≡ false) × (magUnits acc ≤ magUnits (sumFrom acc ts))
+      × Each (λ (x : Float). magUnits x ≤ magUnits (sumFrom acc ts)) ts
   unfolding sumFrom
   sum-grows acc [] c u s none none h = (s, le-refl (magUnits acc), none)
   sum-grows acc (x ∷ xs) c u s (more w e) (more p q) h =
       let l = length xs * (2 * t) in
       let z : suc (length xs) * (2 * t) ≡ l + 2 * t = suc-mul (length xs) (2 * t) in
-      let a = add-small acc x c u w (now l (suc (length xs) * (2 * t)) (2 ^ (b + 1074)) z h) in
+      let a = add-small acc x c u w (now c l (suc (length xs) * (2 * t)) (2 ^ (b + 1074)) z h) in
       let g = add-grows acc x (u .fit) (w .fit) (u .fin) (w .fin) s (p .sign) (a .fin) in
-      let r = sum-grows (add binary64 acc x) xs (c + 2 * t) a (g .sign) e q (later l (suc (length xs) * (2 * t)) (2 ^ (b + 1074)) z h) in
+      let r = sum-grows (add binary64 acc x) xs (c + 2 * t) a (g .sign) e q (later c l (suc (length xs) * (2 * t)) (2 ^ (b + 1074)) z h) in
       (r .0, le-trans (g .left) (r .1), more (le-trans (g .right) (r .1)) (r .2))
-    where
-      now : (l z p : ℕ) → z ≡ l + 2 * t → c + z < p → c + t < p
-      now l z p i h = omega arith
-
-      later : (l z p : ℕ) → z ≡ l + 2 * t → c + z < p → c + 2 * t + l < p
-      later l z p i h = omega arith
 
 zero-upto : UpTo 0 zero64
 zero-upto = record { fit = zero-fits; fin = tt; le = le-of-eq zero-mag }
+
+-- at most 24 terms
+few : (t p l : ℕ) → l ≤ 24 → 24 * (2 * t) < p → 0 + l * (2 * t) < p
+few t p l n h = lt-of-le-of-lt (le-trans (le-of-eq (zero-add (l * (2 * t)))) (mul-le-mul-right (2 * t) n)) h
 
 -- ---- x·y
 product-is : (x y : Float) → Sample x → UpTo (2 ^ 31 * U) y → UpTo (2 ^ 2070) (mul binary64 x y)
@@ -172,10 +172,7 @@ products-length (x ∷ xs) (y ∷ ds) = suc-le-suc (products-length xs ds)
 
 dot-is : (xs ds : List Float) → length xs ≤ 24 → Each Sample xs → Each (UpTo (2 ^ 31 * U)) ds → UpTo (2 ^ 2076) (dotOf xs ds)
 dot-is xs ds n d e =
-    let l = length (products xs ds) in
-    let most : l * (2 * 2 ^ 2070) ≤ 24 * (2 * 2 ^ 2070) = mul-le-mul-right (2 * 2 ^ 2070) (le-trans (products-length xs ds) n) in
-    let top : 24 * (2 * 2 ^ 2070) < 2 ^ 2076 = lit≤ tt in
-    let less : 0 + l * (2 * 2 ^ 2070) < 2 ^ 2076 = lt-of-le-of-lt (le-trans (le-of-eq (zero-add (l * (2 * 2 ^ 2070)))) most) top in
+    let less = few (2 ^ 2070) (2 ^ 2076) (length (products xs ds)) (le-trans (products-length xs ds) n) (lit≤ tt) in
     let r = sum-small (2 ^ 2070) 1002 (lit≤ tt) (lit≤ tt) zero64 (products xs ds) 0 zero-upto (products-are xs ds d e) less in
     record { fit = r .fit; fin = r .fin; le = le-trans (r .le) (le-of-lt less) }
 
@@ -188,9 +185,10 @@ square-is y u =
       record {
         fit = r .fit;
         fin = r .fin;
-        le = le-of-mul-le-mul-right (le-trans (r .hi) (le-trans (add-le-add (mul-le-mul (u .le) (u .le)) (le-refl (2 ^ 1083 * U))) top)) (pow-pos 1074);
+        le = le-of-mul-le-mul-right (le-trans (r .hi) (le-trans (add-le-add (mul-le-mul (u .le) (u .le)) (le-refl (2 ^ 1083 * U))) top))
+            (pow-pos 1074);
       },
-      record { fit = r .fit; fin = r .fin; sign = r .sign ∙ same-sign (isMinus y) },
+      record { fit = r .fit; fin = r .fin; sign = r .sign ∙ unlike-same (isMinus y) },
     )
 
 -- of a whole number that is not 0: a half at least
@@ -277,11 +275,8 @@ score-finite xs ys f a m h n k l p =
     let ds = doublesOf ys in
     let e = doubles-are ys h in
     let s = squares-are ds e in
-    let most : length (products ds ds) * (2 * 2 ^ 1137) ≤ 24 * (2 * 2 ^ 1137) =
-    mul-le-mul-right (2 * 2 ^ 1137) (le-trans (products-length ds ds) (le-trans (le-of-eq (doubles-length ys)) n)) in
-    let top : 24 * (2 * 2 ^ 1137) < 2 ^ 1143 = lit≤ tt in
-    let less : 0 + length (products ds ds) * (2 * 2 ^ 1137) < 2 ^ 1143 =
-    lt-of-le-of-lt (le-trans (le-of-eq (zero-add (length (products ds ds) * (2 * 2 ^ 1137)))) most) top in
+    let many = le-trans (products-length ds ds) (le-trans (le-of-eq (doubles-length ys)) n) in
+    let less = few (2 ^ 1137) (2 ^ 1143) (length (products ds ds)) many (lit≤ tt) in
     let r = sum-small (2 ^ 1137) 69 (lit≤ tt) (lit≤ tt) zero64 (products ds ds) 0 zero-upto (s .0) less in
     let g = sum-grows (2 ^ 1137) 69 (lit≤ tt) (lit≤ tt) zero64 (products ds ds) 0 zero-upto refl (s .0) (s .1) less in
     over-root-finite (dotOf xs ds) (dotOf ds ds) (dot-is xs ds m (samples-are xs f a) e) (record { fit = r .fit; fin = r .fin; sign = g .0 })
