@@ -1,4 +1,3 @@
-pub mod Vectors
 pub mod Rule
 pub mod Order
 pub mod Complete

@@ -11,8 +11,8 @@ use lib.Dec.{T, ltb}
 use lib.ListN.{length}
 use Rattle.laws.specs.Tests.{is-true, true-is}
 use Rattle.rank.specs.Vector.{class, inMiddle}
+use Rattle.rank.specs.Laws.Vector.{middle-class}
 use Rattle.rows.specs.Table.{rowRanks, positionOf, middleRows, middleClass, middleRow, IsMiddleRow}
-use Rattle.rows.specs.Laws.Vectors.{middle-class}
 use Rattle.rows.specs.Laws.Rule.{row-middle}
 use Rattle.rows.specs.Laws.Places.{number-class, number-index, number-back, row-at-position, position-iff, position-middle}
 

@@ -11,10 +11,9 @@ use lib.ListN.{length, getD}
 use Rattle.laws.specs.Tests.{is-true}
 use Rattle.laws.specs.Lists.{standsAt, stands-there, stands-first, stands-le}
 use Rattle.rank.specs.Vector.{ranksBelow, class, pack, unpack, before, inClass, inMiddle, boundCost, boundCut}
+use Rattle.rank.specs.Laws.Vector.{below-up, within-down, unpack-pack, pack-unpack}
 use Rattle.rows.specs.Rows.{rows}
 use Rattle.rows.specs.Table.{rowRanks, IsRow, maxRank, findOf, positionOf, middleRows}
-use Rattle.rank.specs.Laws.Vector.{unpack-pack, pack-unpack}
-use Rattle.rows.specs.Laws.Vectors.{below-up, within-down}
 use Rattle.rows.specs.Laws.Rule.{count, row-class, row-within, row-middle, row-packed, row-ranks}
 use Rattle.rows.specs.Laws.Order.{unique}
 use Rattle.rows.specs.Laws.Complete.{complete}
