@@ -3,3 +3,4 @@ pub mod Order
 pub mod Complete
 pub mod Places
 pub mod Middle
+pub mod Seats

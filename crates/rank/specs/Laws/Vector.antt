@@ -63,7 +63,7 @@ pub within-says : (C : ℕ) (cut v : List ℕ) → Says (within C cut v) ((cost 
 within-says C cut v = pick3-says (cost v) C (lexLe v cut) (LexLe v cut) (lexLe-says v cut)
 
 -- what meets a bound costs at most the bound's cost
-pub within-cost : (C : ℕ) (cut v : List ℕ) → T (within C cut v) → cost v ≤ C
+within-cost : (C : ℕ) (cut v : List ℕ) → T (within C cut v) → cost v ≤ C
 within-cost C cut v t = go (pick3-out (cost v) C (lexLe v cut) t)
   where
     go : (cost v < C) ⊎ ((cost v ≡ C) × T (lexLe v cut)) → cost v ≤ C
@@ -108,7 +108,7 @@ pub class-cost : (c : ℕ) (v : List ℕ) → T (inClass c v) → cost v ≤ 96
 class-cost zero v t = omega (arith, within-cost 88 (boundCut 0) v t)
 class-cost (suc c) v t = within-cost 96 (boundCut (suc c)) v t
 
-pub middle-cost : (v : List ℕ) → T (inMiddle v) → cost v ≤ 72
+middle-cost : (v : List ℕ) → T (inMiddle v) → cost v ≤ 72
 middle-cost v t = within-cost middleCost middleCut v t
 
 -- the middle's bound lies inside each class's

@@ -7,7 +7,7 @@ use Rattle.rank.specs.Vector.{ranksBelow}
 use Rattle.rank.specs.Laws.Vector.{below-up, packed-is}
 use Rattle.rows.specs.Table.{findOf, seatAt, classIndexOf}
 use Rattle.rows.specs.Laws.Places.{position-small, position-big}
-use Rattle.rows.specs.Answers.{seat-none}
+use Rattle.rows.specs.Laws.Seats.{seat-none}
 use Rattle.rows.proofs.class_index.Statement.{statement}
 use Rattle.rows.proofs.class_index.Tie as tie
 
