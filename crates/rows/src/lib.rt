@@ -1,13 +1,13 @@
 // The table of 4,096 rank vectors, and the lookups in it.
 mod table;
 
+use rank::Bound;
 ghost use mathlib.Core.Path.{_≡_};
 ghost use Prim.Native.Nat.{ℕ, _<_};
 ghost use lib.ListN.{getD};
 ghost use Rattle.rank.specs.Vector.{unpack, within};
 ghost use Rattle.rows.specs.Rows.{rows};
 ghost use Rattle.rows.specs.Table.{findOf, seatAt, classIndexOf, middleRows, middleSeat, mixedIndexOf};
-use rank::Bound;
 
 // Largest rank any row holds.
 pub const MAX_RANK: u32 = 4;
@@ -64,6 +64,7 @@ fn place_of(t: &[u32; 4096], w: u32) -> usize
         cost: own.cost,
         cut: rho,
     };
+    // A vector with a rank above 7 is refused a class and gets 0; no row is one.
     let side = rank::rank_class(rho);
     let mut lo = (CLASS_ROWS * side.class) as usize;
     let mut hi = lo + CLASS_ROWS as usize;

@@ -21,6 +21,7 @@ rule c i v w = eqb (class v) c && (inClass c v && (Bool·beq (inMiddle v) (ltb i
 right : ℕ → ℕ → Bool
 right i w = rule (i / 2048) (i % 2048) (unpack 8 w) w
 
+-- the test
 tested : T (every right 0 rows)
 unfolding right rows
 tested = tt
