@@ -14,12 +14,11 @@ use Rattle.laws.specs.Tests.{upto, below2, and-left, and-right, split3, or-case
 use Rattle.laws.specs.Lists.{tab, filled, tab-length}
 use Rattle.rank.specs.Coord.{valOf}
 use Rattle.rank.specs.Vector.{ranksBelow, class, pack, unpack, inClass}
-use Rattle.rank.specs.Laws.Vector.{unpack-at, unpack-length, pack-unpack}
+use Rattle.rank.specs.Laws.Vector.{unpack-at, unpack-length, pack-unpack, more-below, below-up}
 use Rattle.rank.specs.Section.{pointAt, bitsOf, ranksOf}
 use Rattle.rank.specs.Laws.Section.{point-bits, point-ranks, point-length}
 use Rattle.rows.specs.Rows.{rows}
 use Rattle.rows.specs.Table.{rowRanks}
-use Rattle.rows.specs.Laws.Vectors.{more-below, below-up}
 use Rattle.rows.specs.Laws.Rule.{row-class, row-ranks, row-packed}
 use Rattle.rows.specs.Laws.Places.{number-class, is-row}
 use Rattle.trellis.specs.Tables.{prefixes, suffixes}

@@ -2,8 +2,8 @@
 use mathlib.Core.Path.{_≡_, ap, ap₂, sym, _∙_}
 use mathlib.Core.Bool.{true, _&&_, and-eq-true-iff}
 use mathlib.Core.List.{List, [], _∷_}
-use Prim.Native.Nat.{ℕ, zero, suc, _+_, _*_, _/_, _%_, _^_, _<_, _≤_, compare}
-use native.Mathlib.Nat.{mul-le-mul, le-of-suc-le-suc, not-suc-le-zero, mul-suc, mul-assoc}
+use Prim.Native.Nat.{ℕ, zero, suc, _+_, _*_, _/_, _%_, _^_, _<_, compare}
+use native.Mathlib.Nat.{le-of-suc-le-suc, not-suc-le-zero, mul-suc, mul-assoc}
 use native.Mathlib.Omega.{arith}
 use borrow.Author.Tests.{ltb-true}
 use lib.Pow.{pow-pos, pow-add}
@@ -34,9 +34,6 @@ module _ (v : List ℕ) (j : ℕ) (h : j < length v) where
   pub lex-step : (w : List ℕ) → j < length w
       → lexLe (drop j v) (drop j w) ≡ pick3 (compare (getD v j 0) (getD w j 0)) (lexLe (drop (j + 1) v) (drop (j + 1) w))
   lex-step w k = ap₂ lexLe (drop-next ℕ 0 v j h) (drop-next ℕ 0 w j k)
-
-pub sq-le : (r : ℕ) → r < 16 → sq r ≤ 961
-sq-le r h = let q : 2 * r + 1 ≤ 31 = omega arith in mul-le-mul q q
 
 -- ---- packed so far
 pow4 : (j : ℕ) → 2 ^ (4 * suc j) ≡ 2 ^ (4 * j) * 16

@@ -1,5 +1,5 @@
 -- Rank vectors: a section's ranks, coordinate 0 first. Cost, class, order, bounds and packing as document 01 has them. Assumes nothing.
-use mathlib.Core.Bool.{Bool, true, false, _&&_}
+use mathlib.Core.Bool.{Bool, true, _&&_}
 use mathlib.Core.List.{List, [], _∷_}
 use Prim.Native.Nat.{ℕ, zero, suc, _+_, _*_, _/_, _%_, compare}
 use lib.Dec.{ltb}

@@ -155,7 +155,7 @@ pub struct Held {
 }
 
 // Whether all ranks are below `b`.
-fn all_below(rho: [u32; 8], b: u32) -> bool
+pub fn all_below(rho: [u32; 8], b: u32) -> bool
     ensures { λ r. ⌜ r ≡ ranksBelow b rho ⌝ }
 {
     let mut j: usize = 0;

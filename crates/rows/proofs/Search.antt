@@ -1,124 +1,84 @@
 -- A binary search among the rows of one class: what is left of them after each comparison. Assumes nothing.
 use mathlib.Core.Path.{_≡_, _∙_, ap, sym, subst}
 use mathlib.Core.List.{List}
-use Prim.Native.Nat.{ℕ, suc, _+_, _*_, _-_, _/_, _^_, _<_, _≤_}
-use native.Mathlib.Nat.{pow-suc}
+use Prim.Native.Nat.{ℕ, _+_, _*_, _-_, _/_, _<_, _≤_}
 use native.Mathlib.Omega.{arith}
-use lib.Pow.{pow-pos}
+use lib.Dec.{T}
 use lib.ListN.{getD}
-use Rattle.laws.specs.Order.{Compared, less, same, more, trichotomy}
-use Rattle.rank.specs.Vector.{class, unpack}
+use Rattle.rank.specs.Vector.{cost, unpack, within}
+use Rattle.rank.specs.Answers.{classedOf}
+use Rattle.rank.specs.Laws.Vector.{below-up, class-accepted, class-two}
 use Rattle.rows.specs.Rows.{rows}
-use Rattle.rows.specs.Table.{rowRanks}
-use Rattle.rows.specs.Key.{key}
-use Rattle.rows.specs.Laws.Rule.{row-class}
-use Rattle.rows.specs.Laws.Order.{row-key}
+use Rattle.rows.specs.Table.{rowRanks, maxRank}
+use Rattle.rows.specs.Laws.Rule.{row-class, row-ranks}
+use Rattle.rows.specs.Laws.Order.{no-later}
 
 -- a row read from the table as it was lent
 pub read : {t : List ℕ} (i : ℕ) → t ≡ rows → getD t i 0 ≡ getD rows i 0
 read i e = ap (λ (v : List ℕ). getD v i 0) e
 
--- of the 2 ^ d rows from lo on, all of the class of w, one is w if any row is
-pub record Around (w lo d : ℕ) : Type 0 where
-  pub start : 2048 * class (unpack 8 w) ≤ lo
-  pub stop : lo + 2 ^ d ≤ 2048 * class (unpack 8 w) + 2048
-  pub only : (i : ℕ) → i < 4096 → getD rows i 0 ≡ w → (lo ≤ i) × (i < lo + 2 ^ d)
+-- the rows from lo on, up to hi, are of one class, and one of them is w if any row is
+pub record Around (w lo hi : ℕ) : Type 0 where
+  pub some : lo < hi
+  pub stop : hi ≤ 4096
+  pub class-is : lo / 2048 ≡ (hi - 1) / 2048
+  pub only : (i : ℕ) → i < 4096 → getD rows i 0 ≡ w → (lo ≤ i) × (i < hi)
 
 -- at first: the rows of its class
-pub all-of-class : (w : ℕ) → Around w (2048 * class (unpack 8 w)) 11
+pub all-of-class : (w c : ℕ) → c ≡ classedOf (unpack 8 w) .class → Around w (2048 * c) (2048 * c + 2048)
 unfolding rowRanks
-all-of-class w = record {
-  start = omega arith;
-  stop = omega arith;
-  only = λ i h e. block i (class (unpack 8 w)) (sym (row-class i h) ∙ ap (λ (x : ℕ). class (unpack 8 x)) e);
+all-of-class w c q = record {
+  some = omega arith;
+  stop = omega (arith, class-two (unpack 8 w));
+  class-is = omega arith;
+  only = λ i h e. block i c (own i h e ∙ sym q);
 }
   where
-    block : (i c : ℕ) → i / 2048 ≡ c → (2048 * c ≤ i) × (i < 2048 * c + 2 ^ 11)
+    own : (i : ℕ) → i < 4096 → getD rows i 0 ≡ w → i / 2048 ≡ classedOf (unpack 8 w) .class
+    own i h e =
+        sym (row-class i h) ∙ sym (class-accepted (rowRanks i) (below-up (maxRank + 1) 8 (omega arith) (rowRanks i) (row-ranks i h)))
+        ∙ ap (λ (x : ℕ). classedOf (unpack 8 x) .class) e
+
+    block : (i c : ℕ) → i / 2048 ≡ c → (2048 * c ≤ i) × (i < 2048 * c + 2048)
     block i c e = (omega arith, omega arith)
 
--- the rows before the middle one, m, have smaller keys than it, and those after it greater ones; so one comparison halves what is left
-module _ (w lo d : ℕ) (a : Around w lo (suc d)) where
-  room : lo + 2 ^ d < 2048 * class (unpack 8 w) + 2048
-  room = omega (arith, a .stop, pow-suc 2 d, pow-pos d)
-
-  middle-lt : lo + 2 ^ d < 4096
-  middle-lt = omega (arith, room, two (unpack 8 w))
-    where
-      two : (v : List ℕ) → class v < 2
-      two v = omega arith
-
-  one-class : (i : ℕ) → lo ≤ i → i < lo + 2 ^ suc d → i / 2048 ≡ (lo + 2 ^ d) / 2048
-  one-class i l h = block (class (unpack 8 w)) lo i (lo + 2 ^ d) (lo + 2 ^ suc d) (a .start) l (omega arith) h room (a .stop)
-    where
-      block : (c lo i m hi : ℕ) → 2048 * c ≤ lo → lo ≤ i → lo ≤ m → i < hi → m < 2048 * c + 2048 → hi ≤ 2048 * c + 2048
-          → i / 2048 ≡ m / 2048
-      block c lo i m hi p q r s t u = omega arith
+-- ---- one turn of the loop: the row m, which stands between, comes no later than w or it does
+module _ (w lo hi m : ℕ) (a : Around w lo hi) (l : lo < m) (h : m < hi) where
+  abbrev comes : ℕ → Type 0
+  comes x = T (within (cost (unpack 8 x)) (unpack 8 x) (unpack 8 (getD rows m 0)))
 
   -- row i is w
-  module _ (i : ℕ) (h : i < 4096) (e : getD rows i 0 ≡ w) where
-    same-key : key (rowRanks i) ≡ key (unpack 8 w)
+  module _ (i : ℕ) (k : i < 4096) (e : getD rows i 0 ≡ w) where
+    together : i / 2048 ≡ m / 2048
+    together = block lo hi i m (a .class-is) (a .only i k e .0) (a .only i k e .1) l h
+      where
+        block : (lo hi i m : ℕ) → lo / 2048 ≡ (hi - 1) / 2048 → lo ≤ i → i < hi → lo < m → m < hi → i / 2048 ≡ m / 2048
+        block lo hi i m q p r s t = omega arith
+
+    from-m : comes w → m ≤ i
     unfolding rowRanks
-    same-key = ap (λ (x : ℕ). key (unpack 8 x)) e
+    from-m t = no-later i m k (omega (arith, a .stop)) together .0 (subst comes (sym e) t)
 
-    one : i / 2048 ≡ (lo + 2 ^ d) / 2048
-    one = one-class i (a .only i h e .0) (a .only i h e .1)
+    below-m : (comes w → ⊥) → i < m
+    unfolding rowRanks
+    below-m n = let u : m ≤ i → ⊥ = λ q. n (subst comes e (no-later i m k (omega (arith, a .stop)) together .1 q)) in omega arith
 
-    not-below : key (rowRanks (lo + 2 ^ d)) ≤ key (unpack 8 w) → Compared i (lo + 2 ^ d) → lo + 2 ^ d ≤ i
-    not-below k (less l) = absurd (omega (arith, row-key i (lo + 2 ^ d) l middle-lt one, same-key))
-    not-below k (same q) = omega arith
-    not-below k (more l) = omega arith
-
-    not-above : key (unpack 8 w) < key (rowRanks (lo + 2 ^ d)) → Compared i (lo + 2 ^ d) → i < lo + 2 ^ d
-    not-above k (less l) = l
-    not-above k (same q) = absurd (omega (arith, ap (λ (n : ℕ). key (rowRanks n)) q, same-key))
-    not-above k (more l) = absurd (omega (arith, row-key (lo + 2 ^ d) i l h (sym one), same-key))
-
-  pub upper : key (rowRanks (lo + 2 ^ d)) ≤ key (unpack 8 w) → Around w (lo + 2 ^ d) d
-  upper k = record {
-    start = omega (arith, a .start);
-    stop = omega (arith, a .stop, pow-suc 2 d);
-    only = λ i h e. (not-below i h e k (trichotomy i (lo + 2 ^ d)), omega (arith, a .only i h e .1, pow-suc 2 d));
+  pub upper : comes w → Around w m hi
+  upper t = record {
+    some = h;
+    stop = a .stop;
+    class-is = omega (arith, a .class-is);
+    only = λ i k e. (from-m i k e t, a .only i k e .1);
   }
 
-  pub lower : key (unpack 8 w) < key (rowRanks (lo + 2 ^ d)) → Around w lo d
-  lower k = record {
-    start = a .start;
-    stop = omega (arith, room);
-    only = λ i h e. (a .only i h e .0, not-above i h e k (trichotomy i (lo + 2 ^ d)));
+  pub lower : (comes w → ⊥) → Around w lo m
+  lower n = record {
+    some = l;
+    stop = omega (arith, a .stop);
+    class-is = omega (arith, a .class-is);
+    only = λ i k e. (a .only i k e .0, below-m i k e n);
   }
 
 -- one row is left
-pub last : (w lo : ℕ) → Around w lo 0 → (lo < 4096) × ((i : ℕ) → i < 4096 → getD rows i 0 ≡ w → i ≡ lo)
-last w lo a = (omega (arith, a .stop, two (unpack 8 w)), λ i h e. omega (arith, a .only i h e .0, a .only i h e .1))
-  where
-    two : (v : List ℕ) → class v < 2
-    two v = omega arith
-
--- the middle row of what is left is a row
-pub middle-in : (w lo d b : ℕ) → Around w lo d → 0 < d → b ≡ 2 ^ (d - 1) → lo + b < 4096
-middle-in w lo d b a left half =
-    subst (λ (n : ℕ). lo + n < 4096) (sym half) (middle-lt w lo (d - 1) (subst (λ (n : ℕ). Around w lo n) one-less a))
-  where
-    one-less : d ≡ suc (d - 1)
-    one-less = omega arith
-
--- ---- one turn of the loop: b is half of what is left, k the key of w, x the key of the row at lo + b
-module _ (w lo d b k x : ℕ) (a : Around w lo d) (left : 0 < d) (half : b ≡ 2 ^ (d - 1)) (is-key : k ≡ key (unpack 8 w))
-    (row-is : x ≡ key (unpack 8 (getD rows (lo + b) 0))) where
-  whole : Around w lo (suc (d - 1))
-  whole = subst (λ (n : ℕ). Around w lo n) one-less a
-    where
-      one-less : d ≡ suc (d - 1)
-      one-less = omega arith
-
-  row-key-is : x ≡ key (rowRanks (lo + 2 ^ (d - 1)))
-  unfolding rowRanks
-  row-key-is = row-is ∙ ap (λ (n : ℕ). key (unpack 8 (getD rows (lo + n) 0))) half
-
-  pub turn-up : x ≤ k → (lo + b < 4096) × Around w (lo + b) (d - 1)
-  turn-up h =
-      subst (λ (n : ℕ). (lo + n < 4096) × Around w (lo + n) (d - 1)) (sym half)
-      (middle-lt w lo (d - 1) whole, upper w lo (d - 1) whole (omega (arith, row-key-is, is-key)))
-
-  pub turn-down : k < x → Around w lo (d - 1)
-  turn-down h = lower w lo (d - 1) whole (omega (arith, row-key-is, is-key))
+pub last : (w lo hi : ℕ) → hi ≤ lo + 1 → Around w lo hi → (lo < 4096) × ((i : ℕ) → i < 4096 → getD rows i 0 ≡ w → i ≡ lo)
+last w lo hi h a = (omega (arith, a .some, a .stop), λ i k e. omega (arith, a .only i k e .0, a .only i k e .1))

@@ -1,12 +1,10 @@
 -- What `class_index` and `mixed_index` answer, said without a search: which row a vector is, and that no second answer fits.
 -- Assumes nothing.
 use mathlib.Core.Path.{_≡_, _∙_, refl, ap, ap₂, sym, subst}
-use mathlib.Core.Bool.{Bool, cond}
 use mathlib.Core.List.{List, [], _∷_}
-use Prim.Native.Nat.{ℕ, _+_, _*_, _/_, _%_, _<_, _≤_}
+use Prim.Native.Nat.{ℕ, _+_, _*_, _/_, _%_, _<_}
 use native.Mathlib.Decide.{decLt}
 use native.Mathlib.Omega.{arith}
-use borrow.Author.Tests.{lt-ltb, le-ltb}
 use lib.Dec.{T}
 use lib.ListN.{length}
 use Rattle.rank.specs.Vector.{class, inClass, inMiddle}
@@ -16,23 +14,9 @@ use Rattle.rows.specs.Laws.Rule.{row-class, row-in}
 use Rattle.rows.specs.Laws.Places.{number-class, number-index, number-back, position-of-row, position-none, row-or-none, is-row}
 use Rattle.rows.specs.Laws.Middle.{Names, named, used-small, used-row, middle-lt, middle-row-class}
 use Rattle.rows.specs.Laws.Middle.{middle-row-in, middle-at, middle-or-none}
+use Rattle.rows.specs.Laws.Seats.{number-zero, same-values, not-both, seat-row, seat-none, middle-used, middle-unused}
 use Rattle.rows.specs.declared.Seated.{Seated}
 use Rattle.rows.specs.declared.Seated.the-variants.{At, Nothing}
-
-number-zero : (r : Seated) → numberOf r ≡ 0
-number-zero (At c i) = refl
-number-zero Nothing = refl
-
--- the values decide the answer
-same-values : (r s : Seated) → valuesOf r ≡ valuesOf s → r ≡ s
-same-values (At c i) (At d j) e = cc
-same-values (At c i) Nothing e = cc
-same-values Nothing (At d j) e = cc
-same-values Nothing Nothing e = refl
-
--- an answer is not both
-not-both : (c i : ℕ) → Nothing ≡ At c i → ⊥
-not-both c i e = let z : _≡_ {A = ℕ} 0 1 = cc in omega arith
 
 -- ---- class_index
 -- the answer for v: the class and the index of the row that v is, and no value where v is no row
@@ -40,25 +24,6 @@ pub record ClassIndex (v : List ℕ) (r : Seated) : Type 0 where
   pub number : numberOf r ≡ 0
   pub row : (c i : ℕ) → c < 2 → i < 2048 → rowRanks (2048 * c + i) ≡ v → valuesOf r ≡ c ∷ i ∷ []
   pub none : (IsRow v → ⊥) → valuesOf r ≡ []
-
-pub seat-row : (p : ℕ) → p < 4096 → seatAt p ≡ At (p / 2048) (p % 2048)
-unfolding seatAt
-seat-row p h = ap (λ (b : Bool). cond b (At (p / 2048) (p % 2048)) Nothing) (lt-ltb p 4096 h)
-
-pub seat-none : (p : ℕ) → 4096 ≤ p → seatAt p ≡ Nothing
-unfolding seatAt
-seat-none p h = ap (λ (b : Bool). cond b (At (p / 2048) (p % 2048)) Nothing) (le-ltb p 4096 h)
-
-pub seat-fits : (p c i : ℕ) → seatAt p ≡ At c i → (c < 2) × (i < 2048)
-seat-fits p c i e = go (decLt p 4096)
-  where
-    go : Dec (p < 4096) → (c < 2) × (i < 2048)
-    go (yes h) =
-        let q : At (p / 2048) (p % 2048) ≡ At c i = sym (seat-row p h) ∙ e in
-        let x : p / 2048 ≡ c = cc in
-        let y : p % 2048 ≡ i = cc in
-        (omega arith, omega arith)
-    go (no h) = absurd (not-both c i (sym (seat-none p (omega arith)) ∙ e))
 
 -- a row's own class and index
 pub class-index-row : (c i : ℕ) → c < 2 → i < 2048 → classIndexOf (rowRanks (2048 * c + i)) ≡ At c i
@@ -73,7 +38,7 @@ class-index-at : (v : List ℕ) (p : ℕ) → p < 4096 → rowRanks p ≡ v → 
 class-index-at v p h q =
     ap classIndexOf (sym (ap rowRanks (number-back p) ∙ q)) ∙ class-index-row (p / 2048) (p % 2048) (omega arith) (omega arith)
 
-pub class-index-none : (v : List ℕ) → length v ≡ 8 → (IsRow v → ⊥) → classIndexOf v ≡ Nothing
+class-index-none : (v : List ℕ) → length v ≡ 8 → (IsRow v → ⊥) → classIndexOf v ≡ Nothing
 unfolding classIndexOf
 class-index-none v e n = ap seatAt (position-none v e n) ∙ seat-none 4096 (omega arith)
 
@@ -126,14 +91,6 @@ pub record MixedIndex (v : List ℕ) (r : Seated) : Type 0 where
   pub row : (i : ℕ) → i < 2048 → rowRanks (middleRow i) ≡ v → valuesOf r ≡ middleClass i ∷ i ∷ []
   pub none : (IsMiddleRow v → ⊥) → valuesOf r ≡ []
 
-pub middle-used : (c j : ℕ) → j < middleRows c → middleSeat (At c j) ≡ At c (j + 1240 * c)
-unfolding middleSeat
-middle-used c j h = ap (λ (b : Bool). cond b (At c (j + 1240 * c)) Nothing) (lt-ltb j (middleRows c) h)
-
-pub middle-unused : (c j : ℕ) → middleRows c ≤ j → middleSeat (At c j) ≡ Nothing
-unfolding middleSeat
-middle-unused c j h = ap (λ (b : Bool). cond b (At c (j + 1240 * c)) Nothing) (le-ltb j (middleRows c) h)
-
 -- the class and the index of the middle's row
 pub mixed-index-row : (i : ℕ) → i < 2048 → mixedIndexOf (rowRanks (middleRow i)) ≡ At (middleClass i) i
 unfolding mixedIndexOf
@@ -146,7 +103,7 @@ mixed-index-row i h = let n = named i h in go (n .0) (n .1) (n .2)
         ∙ middle-used c j (n .used)
         ∙ ap₂ {C = Seated} (λ a b. At a b) (sym (n .class-is)) (sym (n .index))
 
-pub mixed-index-none : (v : List ℕ) → length v ≡ 8 → (IsMiddleRow v → ⊥) → mixedIndexOf v ≡ Nothing
+mixed-index-none : (v : List ℕ) → length v ≡ 8 → (IsMiddleRow v → ⊥) → mixedIndexOf v ≡ Nothing
 unfolding mixedIndexOf middleSeat
 mixed-index-none v e n = go (row-or-none v e)
   where

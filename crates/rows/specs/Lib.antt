@@ -1,7 +1,6 @@
 -- the table, what the lookups answer, and what that means
 pub mod Rows
 pub mod Table
-pub mod Key
 pub mod Answers
 -- theorems
 pub mod Laws

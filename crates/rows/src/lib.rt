@@ -1,14 +1,13 @@
 // The table of 4,096 rank vectors, and the lookups in it.
 mod table;
 
+use rank::Bound;
 ghost use mathlib.Core.Path.{_≡_};
-ghost use Prim.Native.Nat.{ℕ, _+_, _*_, _/_, _%_, _^_, _<_, _≤_};
-ghost use lib.Dec.{T};
+ghost use Prim.Native.Nat.{ℕ, _<_};
 ghost use lib.ListN.{getD};
-ghost use Rattle.rank.specs.Vector.{ranksBelow, sq, cost, class, pack, unpack};
+ghost use Rattle.rank.specs.Vector.{unpack, within};
 ghost use Rattle.rows.specs.Rows.{rows};
-ghost use Rattle.rows.specs.Table.{maxRank, findOf, seatAt, classIndexOf, middleRows, middleSeat, mixedIndexOf};
-ghost use Rattle.rows.specs.Key.{key};
+ghost use Rattle.rows.specs.Table.{findOf, seatAt, classIndexOf, middleRows, middleSeat, mixedIndexOf};
 
 // Largest rank any row holds.
 pub const MAX_RANK: u32 = 4;
@@ -46,67 +45,12 @@ pub fn row(i: usize) -> u32
     0
 }
 
-// Rank `j` of a packed row.
-fn rank_at(w: u32, j: u32) -> u32
-    requires { ⌜ j < 8 ⌝ }
-    ensures { λ r. ⌜ (r ≡ w / 2 ^ (4 * j) % 16) × (r < 16) ⌝ }
+// Whether the packed row `x` comes no later than the last vector of the bound: by cost, then by ranks, coordinate 0 most significant.
+fn no_later(x: u32, last: Bound) -> bool
+    ensures { λ r. ⌜ r ≡ within (last .cost) (last .cut) (unpack 8 x) ⌝ }
 {
-    (w >> (4 * j)) & 15
-}
-
-// The cost of one rank.
-fn square(r: u32) -> u32
-    requires { ⌜ r < 16 ⌝ }
-    ensures { λ q. ⌜ (q ≡ sq r) × (q ≤ 961) ⌝ }
-{
-    (2 * r + 1) * (2 * r + 1)
-}
-
-// The cost of a packed row, from the last rank to the first.
-fn cost_of(w: u32) -> u32
-    ensures { λ r. ⌜ (r ≡ cost (unpack 8 w)) × (r ≤ 7688) ⌝ }
-{
-    let mut sum: u32 = 0;
-    let mut j: u32 = 8;
-    while 0 < j {
-        j -= 1;
-        sum += square(rank_at(w, j));
-    }
-    sum
-}
-
-// The order of packed rows as one number: the cost, then the ranks, coordinate 0 most significant.
-fn key_of(w: u32) -> u64
-    ensures { λ r. ⌜ r ≡ key (unpack 8 w) ⌝ }
-{
-    let mut acc: u64 = cost_of(w) as u64;
-    let mut j: u32 = 0;
-    while j < 8 {
-        acc = acc * 16 + (rank_at(w, j) as u64);
-        j += 1;
-    }
-    acc
-}
-
-// The class of a packed row.
-fn class_of(w: u32) -> u32
-    ensures { λ r. ⌜ (r ≡ class (unpack 8 w)) × (r < 2) ⌝ }
-{
-    let mut sum: u32 = 0;
-    let mut j: u32 = 8;
-    while 0 < j {
-        j -= 1;
-        sum += (rank_at(w, j) + 1) / 2;
-    }
-    sum % 2
-}
-
-// Half of what a search still has before it, d halvings from the end.
-fn bit(d: u32) -> usize
-    requires { ⌜ d < 11 ⌝ }
-    ensures { λ r. ⌜ (r ≡ 2 ^ d) × (r < 2048) ⌝ }
-{
-    1usize << d
+    let h = last.contains(rank::unpack(x));
+    h.held
 }
 
 // The only number that the packed row can have in the table: a binary search among the rows of its class.
@@ -114,14 +58,22 @@ fn place_of(t: &[u32; 4096], w: u32) -> usize
     requires { ⌜ now t ≡ rows ⌝ }
     ensures { λ r. ⌜ (r < 4096) × ((i : ℕ) → i < 4096 → getD rows i 0 ≡ w → i ≡ r) ⌝ }
 {
-    let k = key_of(w);
-    let mut lo = (CLASS_ROWS * class_of(w)) as usize;
-    let mut d: u32 = 11;
-    while 0 < d {
-        d -= 1;
-        let m = lo + bit(d);
-        if key_of(t[m]) <= k {
+    let rho = rank::unpack(w);
+    let own = rank::cost(rho);
+    let last = Bound {
+        cost: own.cost,
+        cut: rho,
+    };
+    // A vector with a rank above 7 is refused a class and gets 0; no row is one.
+    let side = rank::rank_class(rho);
+    let mut lo = (CLASS_ROWS * side.class) as usize;
+    let mut hi = lo + CLASS_ROWS as usize;
+    while lo + 1 < hi {
+        let m = (lo + hi) / 2;
+        if no_later(t[m], last) {
             lo = m;
+        } else {
+            hi = m;
         }
     }
     lo
@@ -137,34 +89,6 @@ pub fn find(w: u32) -> u32
         return i as u32;
     }
     ROWS
-}
-
-// Whether no rank is above the largest.
-fn small(rho: [u32; 8]) -> bool
-    ensures { λ r. ⌜ r ≡ ranksBelow (maxRank + 1) rho ⌝ }
-{
-    let mut j: usize = 0;
-    while j < 8 {
-        if MAX_RANK < rho[j] {
-            return false;
-        }
-        j += 1;
-    }
-    true
-}
-
-// The ranks packed, from the last to the first.
-fn packed(rho: [u32; 8]) -> u32
-    requires { ⌜ T (ranksBelow 16 rho) ⌝ }
-    ensures { λ r. ⌜ r ≡ pack rho ⌝ }
-{
-    let mut acc: u32 = 0;
-    let mut j: usize = 8;
-    while 0 < j {
-        j -= 1;
-        acc = (acc << 4) | rho[j];
-    }
-    acc
 }
 
 // The class and the index of row `p`, if there is one.
@@ -184,8 +108,8 @@ fn seat_at(p: u32) -> Seated
 pub fn class_index(rho: [u32; 8]) -> Seated
     ensures { λ r. ⌜ r ≡ classIndexOf rho ⌝ }
 {
-    if small(rho) {
-        return seat_at(find(packed(rho)));
+    if rank::all_below(rho, MAX_RANK + 1) {
+        return seat_at(find(rank::pack(rho)));
     }
     Seated::Nothing
 }

@@ -15,8 +15,8 @@ use Rattle.rank.specs.Vector.{class, inMiddle}
 use Rattle.rank.specs.Section.{uniform, bitsOf, ranksOf}
 use Rattle.rank.specs.Answers.{markOf, marksOf}
 use Rattle.rank.specs.Laws.Lookup.{marks-are, marks-near}
+use Rattle.rank.specs.Laws.Vector.{class-ranks}
 use Rattle.rows.specs.Table.{classIndexOf, middleSeat, mixedIndexOf, middleRow}
-use Rattle.rows.specs.Laws.Vectors.{class-ranks}
 use Rattle.rows.specs.Laws.Rule.{row-in, row-class}
 use Rattle.rows.specs.Laws.Places.{number-class}
 use Rattle.rows.specs.Laws.Middle.{middle-row-in, middle-lt, middle-row-class}

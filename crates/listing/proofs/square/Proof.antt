@@ -2,7 +2,7 @@
 use borrow.Author.Needs.{needs}
 use native.Mathlib.Omega.{arith}
 use mathlib.Core.Path.{refl}
-use Rattle.listing.specs.Laws.Growth.{sq-mono}
+use Rattle.rank.specs.Laws.Vector.{sq-mono}
 use Rattle.listing.proofs.square.Statement.{statement}
 use Rattle.listing.proofs.square.Tie as tie
 

@@ -4,26 +4,18 @@ use mathlib.Core.Path.{_≡_, refl, ap}
 use mathlib.Core.Bool.{Bool, true, false}
 use mathlib.Core.List.{List, [], _∷_, _++_, List·Memᴰ, List·Memᴰ·head, Memᴰ·append-left, Memᴰ·append-right, Memᴰ·cast}
 use Prim.Native.Nat.{ℕ, zero, suc, _+_, _*_, _-_, _^_, _<_, _≤_}
-use native.Mathlib.Nat.{mul-le-mul, add-zero, zero-add, add-assoc, add-mul, mul-add, mul-comm, mul-assoc, not-suc-le-zero}
+use native.Mathlib.Nat.{add-zero, zero-add, add-assoc, add-mul, mul-add, mul-comm, mul-assoc, not-suc-le-zero}
 use native.Mathlib.Omega.{arith}
 use borrow.Author.Tests.{lt-ltb, le-ltb}
 use lib.ListN.{length}
 use lib.Pow.{pow-add}
 use Rattle.rank.specs.Vector.{sq, cost, pack}
+use Rattle.rank.specs.Laws.Vector.{sq-mono, length≤cost, rank-small}
 use Rattle.listing.specs.Listing.{cap, grow, under}
-
--- ---- costs
-pub sq-mono : (r s : ℕ) → r ≤ s → sq r ≤ sq s
-sq-mono r s h = mul-le-mul {n₁ = 2 * r + 1} {m₁ = 2 * r + 1} {n₂ = 2 * s + 1} {m₂ = 2 * s + 1} (omega arith) (omega arith)
 
 -- a rank of 6 or more costs 169
 pub below-six : (r k : ℕ) → k + sq r < cap → r < 6
-below-six r k h = let n : 6 ≤ r → ⊥ = λ q. omega (arith, sq-mono 6 r q) in omega arith
-
--- a rank costs at least 1
-cost-long : (v : List ℕ) → length v ≤ cost v
-cost-long [] = omega arith
-cost-long (r ∷ v) = omega (arith, cost-long v, sq-mono 0 r (omega arith))
+below-six r k h = rank-small 6 r (omega arith)
 
 -- ---- the ranks of one coordinate
 module _ (f : ℕ → List ℕ) (base r n : ℕ) where
@@ -69,7 +61,7 @@ reach (r ∷ v) row spent h k =
     let same : row + (r + 16 * pack v) * 2 ^ (4 * (8 - suc (length v))) ≡ next + pack v * 2 ^ (4 * (8 - length v)) =
     rw (here, up, pack-up r (pack v) j, add-assoc) in
     let f : ℕ → List ℕ = λ x. under (length v) (row + x * 2 ^ (4 * j)) (spent + sq x) in
-    let low : spent + length v + sq r < cap = omega (arith, cost-long v) in
+    let low : spent + length v + sq r < cap = omega (arith, length≤cost v) in
     Memᴰ·cast same
     (grown f (spent + length v) (next + pack v * 2 ^ (4 * (8 - length v))) 6 r 0 (below-six r (spent + length v) low) (rw zero-add low)
     (rw zero-add (reach v next (spent + sq r) (omega arith) (omega arith))))

@@ -13,10 +13,9 @@ use Rattle.laws.specs.Bits.{weight}
 use Rattle.laws.specs.Whole.{modZ}
 use Rattle.rank.specs.Coord.{valOf}
 use Rattle.rank.specs.Vector.{class, unpack, ranksBelow, inClass, inMiddle}
-use Rattle.rank.specs.Laws.Vector.{unpack-at}
+use Rattle.rank.specs.Laws.Vector.{unpack-at, below-up, class-ranks, middle-class}
 use Rattle.rank.specs.Section as section
 use Rattle.rank.specs.Laws.Section.{point-uniform, point-bits, point-ranks, point-length}
-use Rattle.rows.specs.Laws.Vectors.{below-up, class-ranks, middle-class}
 use Rattle.trellis.specs.Code.{wordOf, columns, label}
 use Rattle.trellis.specs.Code as code
 use Rattle.trellis.specs.Laws.Code.{word-lt, bytes-even}

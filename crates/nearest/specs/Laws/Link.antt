@@ -16,7 +16,7 @@ use Rattle.rank.specs.Coord.{parityOf, bitOf, kOf}
 use Rattle.rank.specs.Laws.Coord.{residue, halves}
 use Rattle.rank.specs.Vector.{ranksBelow, class, kZero, boundCost, boundCut, middleCost, middleCut}
 use Rattle.rank.specs.Section.{uniform, bitsOf, kSum}
-use Rattle.rows.specs.Laws.Vectors.{below-up, class-ranks, middle-class}
+use Rattle.rank.specs.Laws.Vector.{below-up, class-ranks, middle-class}
 use Rattle.trellis.specs.Tables.{prefixes, middles, nexts, suffixes}
 use Rattle.trellis.specs.Code.{wordOf, columns, first, second, third}
 use Rattle.trellis.specs.Code as code

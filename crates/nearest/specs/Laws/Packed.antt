@@ -17,10 +17,9 @@ use Rattle.laws.specs.Whole.{modZ, divZ, mod2-lt, parity-add}
 use Rattle.laws.specs.Bits.{weight}
 use Rattle.rank.specs.Coord.{bitOf, kOf, rankOf, valOf}
 use Rattle.rank.specs.Vector.{ranksBelow, sq, cost, class, kZero, pack, unpack, within, boundCost, boundCut}
-use Rattle.rank.specs.Laws.Vector.{rank-first, rank-rest, unpack-at, unpack-pack}
+use Rattle.rank.specs.Laws.Vector.{rank-first, rank-rest, unpack-at, unpack-pack, below-up}
 use Rattle.rank.specs.Section.{uniform, bitsOf, ranksOf, kSum}
 use Rattle.rank.specs.Laws.Section.{point-back, k-sum}
-use Rattle.rows.specs.Laws.Vectors.{below-up}
 use Rattle.trellis.specs.Code as code
 use Rattle.tetra.specs.Laws.Point.{point-at, even-times, drop-even, weight-same}
 use Rattle.search.specs.declared.Closed.{Closed}

@@ -31,7 +31,7 @@ returns c =
     let rho = c .before .before .before .args .t1 in
     let b = c .before .before .before .args .b in
     let eight : length rho ≡ 8 = search needs in
-    sym (sym (l .inv .1) ∙ below-step rho (l .j) (omega arith) b ∙ rw (le-ltb (getD rho (l .j) 0) b (c .if1 .taken)))
+    sym (sym (l .inv .1) ∙ below-step rho (l .j) (omega arith) b ∙ rw (le-ltb (getD rho (l .j) 0) b (omega arith)))
 
 add-j : tie.Need-add-j Inv-loop μ-loop
 add-j c = search needs
@@ -45,7 +45,7 @@ loop-again c =
     let rho = c .before .before .before .args .t1 in
     let b = c .before .before .before .args .b in
     let eight : length rho ≡ 8 = search needs in
-    (omega arith, rw (lt-ltb (getD rho (l .j) 0) b (c .if1 .left)) at (sym (below-step rho (l .j) (omega arith) b)) ∙ l .inv .1)
+    (omega arith, rw (lt-ltb (getD rho (l .j) 0) b (omega arith)) at (sym (below-step rho (l .j) (omega arith) b)) ∙ l .inv .1)
 
 returns-2 : tie.Need-returns-2 Inv-loop μ-loop
 unfolding ranksBelow

@@ -1,11 +1,11 @@
 -- `rank::pack`: the ranks packed so far. Assumes nothing.
 use mathlib.Core.Path.{_≡_, refl, ap, _∙_}
-use Prim.Native.Nat.{_*_, _%_, _^_, _-_, _≤_, _<_}
+use Prim.Native.Nat.{ℕ, _*_, _%_, _^_, _-_, _≤_, _<_}
 use native.Mathlib.Nat.{add-comm}
 use native.Mathlib.Numerals.{add-one}
 use native.Mathlib.Omega.{arith}
 use borrow.Author.Needs.{needs}
-use lib.Bits.{and-mask, or-shifted-r}
+use lib.Bits.{bitOr, and-mask, or-shifted-r}
 use lib.Pow.{shl-exact}
 use lib.ListN.{length, getD, take}
 use lib.Seq.{take-all}
@@ -54,15 +54,10 @@ loop-again c =
     let small : x % 2 ^ 4 < 2 ^ 4 = omega arith in
     let low : l .row < 2 ^ (4 * l .j) = rw (l .inv .1) (packed-lt (l .j) rho) in (
       omega arith,
-      rw (
-        and-mask x 4,
-        shl-exact 4 (4 * l .j) 32 small (omega arith),
-        or-shifted-r (x % 2 ^ 4) (4 * l .j) (l .row) low,
-        add-one,
-        packed-more (l .j) rho (omega arith),
-        ← l .inv .1,
-      )
-          (add-comm _ _),
+      ap (λ (m : ℕ). bitOr (l .row) (m * 2 ^ (4 * l .j) % 2 ^ 32)) (and-mask x 4)
+          ∙ ap (bitOr (l .row)) (shl-exact 4 (4 * l .j) 32 small (omega arith))
+          ∙ or-shifted-r (x % 2 ^ 4) (4 * l .j) (l .row) low
+          ∙ rw (add-one, packed-more (l .j) rho (omega arith), ← l .inv .1) (add-comm _ _),
     )
 
 returns : tie.Need-returns Inv-loop μ-loop

@@ -1,23 +1,35 @@
 -- `rank::residue`: the two low bits are the remainder from the floor. Assumes nothing.
-use mathlib.Core.Path.{_≡_, refl}
+use mathlib.Core.Path.{_≡_, ap, _∙_}
+use Prim.Native.Nat.{ℕ, _^_, _<_}
 use native.Mathlib.Omega.{arith}
-use lib.Bits.{bitAnd, and-mask}
-use lib.IntN.{ℤ, pos}
+use lib.Bits.{bitAnd, and-mask, and-le-r}
+use lib.Dec.{T}
+use lib.IntN.{ℤ, pos, natAbs}
+use lib.Signed.{nonNeg}
 use mir.Syntax.{w32}
-use mir.Val.{SFits, toZ, ofZ}
+use mir.Val.{Fits, SFits, toZ, ofZ}
 use mir.Facts.{toZ-pos}
 use Rattle.laws.specs.Whole.{modZ, mod4-lt, low2}
 use Rattle.rank.proofs.residue.Statement.{statement}
 use Rattle.rank.proofs.residue.Tie as tie
 
-masked : (y : ℤ) → SFits w32 y → toZ w32 (bitAnd (ofZ w32 y) 3) ≡ pos (modZ y 4)
-masked y f = rw (and-mask (ofZ w32 y) 2, low2 y f) (toZ-pos w32 (omega (arith, mod4-lt y)))
+-- a masked number is not negative
+plain : (a b : ℕ) → b < 2 ^ 31 → toZ w32 (bitAnd a b) ≡ pos (bitAnd a b)
+plain a b h = toZ-pos w32 (omega (arith, and-le-r a b))
+
+fits : (a b : ℕ) → b < 2 ^ 31 → T (nonNeg (toZ w32 (bitAnd a b))) × Fits w32 (natAbs (toZ w32 (bitAnd a b)))
+fits a b h = rw (plain a b h) (tt, omega (arith, and-le-r a b))
+
+low : (y : ℤ) → SFits w32 y → natAbs (toZ w32 (bitAnd (ofZ w32 y) 3)) ≡ modZ y 4
+low y f = ap natAbs (plain (ofZ w32 y) 3 (omega arith)) ∙ and-mask (ofZ w32 y) 2 ∙ low2 y f
 
 cast-result : tie.Need-cast-result
-cast-result c = rw (masked (c .args .y) (c .fits .y)) (tt, omega (arith, mod4-lt (c .args .y)))
+cast-result c = fits (ofZ w32 (c .args .y)) _ (omega arith)
 
 returns : tie.Need-returns
-returns c = rw (masked (c .args .y) (c .fits .y)) (refl, mod4-lt (c .args .y))
+returns c =
+    let e = low (c .args .y) (c .fits .y) in
+    (e, omega (arith, mod4-lt (c .args .y)))
 
 pub residue-spec : {M : Type 1} → statement M
 residue-spec = tie.close (tie.spec cast-result returns)

@@ -6,7 +6,8 @@ use native.Mathlib.Omega.{arith}
 use borrow.Author.Needs.{needs}
 use lib.ListN.{length, getD, drop, drop-of-length-le}
 use Rattle.rank.specs.Vector.{ranksBelow, sq, cost}
-use Rattle.rank.proofs.Steps.{below-next, cost-step, sq-le}
+use Rattle.rank.specs.Laws.Vector.{sq-mono}
+use Rattle.rank.proofs.Steps.{below-next, cost-step}
 use Rattle.rank.proofs.weigh.Statement.{statement}
 use Rattle.rank.proofs.weigh.Tie as tie
 
@@ -27,7 +28,7 @@ turn c =
     below-next rho (c .before .loop .j) (omega arith) 16 (c .before .loop .inv .1)
 
 square : (c : tie.In-loop Inv-loop μ-loop) → sq (getD (c .before .before .args .t1) (c .before .loop .j) 0) ≤ 961
-square c = sq-le _ (turn c .0)
+square c = sq-mono _ 15 (omega (arith, turn c .0))
 
 loop-holds : tie.Need-loop-holds Inv-loop μ-loop
 loop-holds c = (omega arith, c .pre, omega arith, omega arith)

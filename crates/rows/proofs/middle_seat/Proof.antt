@@ -2,7 +2,7 @@
 use mathlib.Core.Path.{sym, subst}
 use Prim.Native.Nat.{ℕ, _<_, _≤_}
 use borrow.Author.Needs.{needs}
-use Rattle.rows.specs.Answers.{middle-used, middle-unused}
+use Rattle.rows.specs.Laws.Seats.{middle-used, middle-unused}
 use Rattle.rows.proofs.middle_seat.Statement.{statement}
 use Rattle.rows.proofs.middle_seat.Tie as tie
 

@@ -2,7 +2,7 @@
 use mathlib.Core.Path.{sym, ap, _∙_}
 use borrow.Author.Needs.{needs}
 use Rattle.rows.specs.Table.{positionOf, classIndexOf, middleSeat, mixedIndexOf}
-use Rattle.rows.specs.Answers.{seat-fits}
+use Rattle.rows.specs.Laws.Seats.{seat-fits}
 use Rattle.rows.proofs.mixed_index.Statement.{statement}
 use Rattle.rows.proofs.mixed_index.Tie as tie
 

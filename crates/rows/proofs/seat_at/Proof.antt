@@ -1,7 +1,7 @@
 -- `rows::seat_at` meets its contract. Assumes nothing.
 use mathlib.Core.Path.{sym}
 use borrow.Author.Needs.{needs}
-use Rattle.rows.specs.Answers.{seat-row, seat-none}
+use Rattle.rows.specs.Laws.Seats.{seat-row, seat-none}
 use Rattle.rows.proofs.seat_at.Statement.{statement}
 use Rattle.rows.proofs.seat_at.Tie as tie
 

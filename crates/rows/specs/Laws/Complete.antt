@@ -4,16 +4,15 @@ use mathlib.Core.Bool.{Bool, true, false, _&&_}
 use mathlib.Core.List.{List, [], _∷_}
 use Prim.Native.Nat.{ℕ, zero, suc, _+_, _^_, _<_, _≤_}
 use native.Mathlib.Omega.{arith}
-use lib.Dec.{T, ltb, eqb, leb, eqb→eq, ltb→lt, lt→ltb}
+use lib.Dec.{T, ltb, eqb, eqb→eq, ltb→lt, lt→ltb}
 use lib.ListN.{length, getD, take, drop}
 use Rattle.laws.specs.Tests.{upto, below, implies, modus, and-left, and-right}
 use Rattle.laws.specs.Trees.{Tree, build, get, get-build}
 use Rattle.rank.specs.Vector.{sq, cost, class, pack, unpack, inClass}
+use Rattle.rank.specs.Laws.Vector.{below-up, length≤cost, rank-small, class-cost, class-ranks, unpack-pack}
 use Rattle.rows.specs.Rows.{rows}
 use Rattle.rows.specs.Table.{rowRanks, IsRow}
-use Rattle.rank.specs.Laws.Vector.{unpack-pack}
-use Rattle.rows.specs.Laws.Vectors.{below-up, length≤cost, rank-small, class-cost, class-ranks}
-use Rattle.rows.specs.Laws.Rule.{tableKey}
+use Rattle.rows.specs.Laws.Order.{inOrder}
 
 -- ---- a test at every vector of d ranks whose cost stays below K, s spent: coordinate by coordinate; a branch ends once its cost, each
 -- open coordinate counted as 1, reaches K. No rank from 6 on costs less than 169.
@@ -33,20 +32,20 @@ cheap-at K hK (suc d) s f t (r ∷ v) e h =
     (rank-small 6 r (omega arith))))
     v (omega arith) (omega arith)
 
--- ---- a guess at the place of a vector, by the keys of the rows at the forks of a search tree
+-- ---- a guess at the place of a vector, by the rows at the forks of a search tree
 data Forks : Type 0 where
   tip : Forks
-  fork : ℕ → Forks → Forks → Forks
+  fork : List ℕ → Forks → Forks → Forks
 
 abbrev forksOf : ℕ → List ℕ → Forks
 forksOf zero ws = tip
-forksOf (suc d) ws = fork (tableKey (unpack 8 (getD ws (2 ^ d) 0))) (forksOf d (take (2 ^ d) ws)) (forksOf d (drop (2 ^ d) ws))
+forksOf (suc d) ws = fork (unpack 8 (getD ws (2 ^ d) 0)) (forksOf d (take (2 ^ d) ws)) (forksOf d (drop (2 ^ d) ws))
 
--- where k would stand among 2 ^ d rows, counted from lo
-abbrev seek : ℕ → ℕ → ℕ → Forks → ℕ
-seek zero k lo t = lo
-seek (suc d) k lo tip = lo
-seek (suc d) k lo (fork p l r) = elim (leb p k) [ true ↦ seek d k (lo + 2 ^ d) r | false ↦ seek d k lo l ]
+-- where v would stand among 2 ^ d rows, counted from lo
+abbrev seek : ℕ → List ℕ → ℕ → Forks → ℕ
+seek zero v lo t = lo
+seek (suc d) v lo tip = lo
+seek (suc d) v lo (fork u l r) = elim (inOrder v u) [ true ↦ seek d v lo l | false ↦ seek d v (lo + 2 ^ d) r ]
 
 rowTree : Tree
 unfolding rows
@@ -57,7 +56,7 @@ unfolding rows
 forks = forksOf 12 rows
 
 guess : List ℕ → ℕ
-guess v = seek 12 (tableKey v) 0 forks
+guess v = seek 12 v 0 forks
 
 -- ---- the test: a vector that meets its class's bound is the row at the guessed place
 found : List ℕ → Bool

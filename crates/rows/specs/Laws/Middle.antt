@@ -11,8 +11,8 @@ use lib.Dec.{T, ltb}
 use lib.ListN.{length}
 use Rattle.laws.specs.Tests.{is-true, true-is}
 use Rattle.rank.specs.Vector.{class, inMiddle}
+use Rattle.rank.specs.Laws.Vector.{middle-class}
 use Rattle.rows.specs.Table.{rowRanks, positionOf, middleRows, middleClass, middleRow, IsMiddleRow}
-use Rattle.rows.specs.Laws.Vectors.{middle-class}
 use Rattle.rows.specs.Laws.Rule.{row-middle}
 use Rattle.rows.specs.Laws.Places.{number-class, number-index, number-back, row-at-position, position-iff, position-middle}
 
@@ -52,7 +52,7 @@ named i h = go (decLt i 1240)
     go (yes l) = (0, i, in-zero i l)
     go (no l) = (1, i - 1240, in-one i (omega arith) h)
 
-pub has-index : (c j : ℕ) → c < 2 → j < middleRows c → Names (j + 1240 * c) c j
+has-index : (c j : ℕ) → c < 2 → j < middleRows c → Names (j + 1240 * c) c j
 has-index zero j hc h = subst (λ (n : ℕ). Names n 0 j) (z j) (in-zero j h)
   where
     z : (j : ℕ) → j ≡ j + 1240 * 0
@@ -67,7 +67,7 @@ pub used-small : (c j : ℕ) → j < middleRows c → j < 2048
 used-small zero j h = omega arith
 used-small (suc c) j h = omega arith
 
-pub index-small : (c j : ℕ) → c < 2 → j < middleRows c → j + 1240 * c < 2048
+index-small : (c j : ℕ) → c < 2 → j < middleRows c → j + 1240 * c < 2048
 index-small zero j hc h = omega arith
 index-small (suc zero) j hc h = omega arith
 index-small (suc (suc c)) j hc h = absurd (omega arith)

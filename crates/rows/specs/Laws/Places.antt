@@ -1,9 +1,9 @@
 -- Where a vector stands in the table: a row at its own number, and no other vector anywhere. Assumes nothing.
-use mathlib.Core.Path.{_≡_, _∙_, refl, ap, sym, subst}
+use mathlib.Core.Path.{_≡_, _∙_, ap, sym, subst}
 use mathlib.Core.Bool.{Bool, true, false, cond}
 use mathlib.Core.Logic.{_↔_}
 use mathlib.Core.List.{List}
-use Prim.Native.Nat.{ℕ, _+_, _*_, _-_, _/_, _%_, _^_, _<_, _≤_}
+use Prim.Native.Nat.{ℕ, _+_, _*_, _-_, _/_, _%_, _<_, _≤_}
 use native.Mathlib.Decide.{decLt}
 use native.Mathlib.Omega.{arith}
 use lib.Dec.{T, ltb}
@@ -11,10 +11,9 @@ use lib.ListN.{length, getD}
 use Rattle.laws.specs.Tests.{is-true}
 use Rattle.laws.specs.Lists.{standsAt, stands-there, stands-first, stands-le}
 use Rattle.rank.specs.Vector.{ranksBelow, class, pack, unpack, before, inClass, inMiddle, boundCost, boundCut}
+use Rattle.rank.specs.Laws.Vector.{below-up, within-down, unpack-pack}
 use Rattle.rows.specs.Rows.{rows}
 use Rattle.rows.specs.Table.{rowRanks, IsRow, maxRank, findOf, positionOf, middleRows}
-use Rattle.rank.specs.Laws.Vector.{unpack-pack, pack-unpack}
-use Rattle.rows.specs.Laws.Vectors.{below-up, within-down}
 use Rattle.rows.specs.Laws.Rule.{count, row-class, row-within, row-middle, row-packed, row-ranks}
 use Rattle.rows.specs.Laws.Order.{unique}
 use Rattle.rows.specs.Laws.Complete.{complete}
@@ -30,11 +29,11 @@ pub number-back : (p : ℕ) → 2048 * (p / 2048) + p % 2048 ≡ p
 number-back p = omega arith
 
 -- ---- a packed row
-pub find-le : (w : ℕ) → findOf w ≤ 4096
+find-le : (w : ℕ) → findOf w ≤ 4096
 unfolding findOf
 find-le w = subst (λ (n : ℕ). standsAt w rows ≤ n) count (stands-le w rows)
 
-pub find-row : (w : ℕ) → findOf w < 4096 → getD rows (findOf w) 0 ≡ w
+find-row : (w : ℕ) → findOf w < 4096 → getD rows (findOf w) 0 ≡ w
 unfolding findOf
 find-row w h = stands-there w rows (omega (arith, count))
 
@@ -78,7 +77,7 @@ position-of-row p h =
     position-small (rowRanks p) (is-true (ranksBelow (maxRank + 1) (rowRanks p)) (row-ranks p h))
     ∙ find-at (pack (rowRanks p)) p h (sym (row-packed p h))
 
-pub position-is : (v : List ℕ) (p : ℕ) → p < 4096 → rowRanks p ≡ v → positionOf v ≡ p
+position-is : (v : List ℕ) (p : ℕ) → p < 4096 → rowRanks p ≡ v → positionOf v ≡ p
 position-is v p h q = ap positionOf (sym q) ∙ position-of-row p h
 
 -- the row at a vector's place is the vector
@@ -92,7 +91,7 @@ row-at-position v e h =
     ∙ ap (λ (n : ℕ). unpack n (pack v)) (sym e)
     ∙ unpack-pack v (below-up (maxRank + 1) 16 (omega arith) v t)
 
-pub position-le : (v : List ℕ) → positionOf v ≤ 4096
+position-le : (v : List ℕ) → positionOf v ≤ 4096
 unfolding positionOf
 position-le v = go (ranksBelow (maxRank + 1) v)
   where
@@ -116,7 +115,7 @@ position-none v e n = go (decLt (positionOf v) 4096)
     go (no l) = omega (arith, position-le v)
 
 -- ---- a vector stands in the table exactly where it meets its class's bound, and then among the rows of its class
-pub position-class : (v : List ℕ) → length v ≡ 8 → positionOf v < 4096 → positionOf v / 2048 ≡ class v
+position-class : (v : List ℕ) → length v ≡ 8 → positionOf v < 4096 → positionOf v / 2048 ≡ class v
 position-class v e h = sym (row-class (positionOf v) h) ∙ ap class (row-at-position v e h)
 
 pub position-iff : (v : List ℕ) → length v ≡ 8 → T (inClass (class v) v) ↔ (positionOf v < 4096)
@@ -154,16 +153,3 @@ cheapest v e i h k b =
     position-iff v e .0
     (subst (λ (c : ℕ). T (inClass c v)) (sym k)
     (within-down (boundCost (i / 2048)) (boundCut (i / 2048)) v (rowRanks i) b (row-within i h)))
-
--- ---- a packed row is found where its ranks stand
-pub find-position : (w : ℕ) → w < 2 ^ 32 → findOf w ≡ positionOf (unpack 8 w)
-unfolding rowRanks
-find-position w h = go (row-or-none (unpack 8 w) refl)
-  where
-    packed-is : (r : IsRow (unpack 8 w)) → getD rows (r .0) 0 ≡ w
-    packed-is r = sym (row-packed (r .0) (r .1)) ∙ ap pack (r .2) ∙ pack-unpack 8 w h
-
-    go : Dec (IsRow (unpack 8 w)) → findOf w ≡ positionOf (unpack 8 w)
-    go (yes r) = find-at w (r .0) (r .1) (packed-is r) ∙ sym (position-is (unpack 8 w) (r .0) (r .1) (r .2))
-    go (no n) =
-        find-none w (λ i k q. n (i, k, ap (unpack 8) q)) ∙ sym (position-none (unpack 8 w) refl n)

@@ -2,18 +2,16 @@
 use mathlib.Core.Path.{_≡_, refl, sym, subst}
 use mathlib.Core.Bool.{Bool, _&&_, Bool·beq}
 use mathlib.Core.List.{List}
-use Prim.Native.Nat.{ℕ, _+_, _*_, _^_, _/_, _%_, _<_}
+use Prim.Native.Nat.{ℕ, _+_, _/_, _%_, _<_}
 use native.Mathlib.Omega.{arith}
 use lib.Dec.{T, ltb, eqb, eqb→eq}
 use lib.ListN.{length, getD}
-use Rattle.laws.specs.Tests.{and-left, and-right, split4, beq-eq}
-use Rattle.laws.specs.Tables.{every, at, ascBy, asc-lt}
+use Rattle.laws.specs.Tests.{split4, beq-eq}
+use Rattle.laws.specs.Tables.{every, at}
 use Rattle.rank.specs.Vector.{ranksBelow, class, pack, unpack, inClass, inMiddle}
+use Rattle.rank.specs.Laws.Vector.{class-ranks}
 use Rattle.rows.specs.Rows.{rows}
 use Rattle.rows.specs.Table.{rowRanks, maxRank, middleRows}
-use Rattle.rank.specs.Laws.Vector.{unpack-below}
-use Rattle.rows.specs.Laws.Vectors.{class-ranks}
-use Rattle.rows.specs.Key.{key}
 
 -- row i of class c has the ranks v, packed in w: its class is c, it meets the bound of c, it meets the middle's bound exactly where
 -- the middle uses it, and it is packed
@@ -23,16 +21,9 @@ rule c i v w = eqb (class v) c && (inClass c v && (Bool·beq (inMiddle v) (ltb i
 right : ℕ → ℕ → Bool
 right i w = rule (i / 2048) (i % 2048) (unpack 8 w) w
 
--- the order of the whole table as one number: class, then key. A row's key is below 2 ^ 40.
-abbrev pub tableKey : List ℕ → ℕ
-tableKey v = class v * 2 ^ 40 + key v
-
-rowKey : ℕ → ℕ
-rowKey w = tableKey (unpack 8 w)
-
--- the test: each row is right, and the rows ascend
-tested : T (every right 0 rows && ascBy rowKey 0 rows)
-unfolding right rowKey rows
+-- the test
+tested : T (every right 0 rows)
+unfolding right rows
 tested = tt
 
 pub count : length rows ≡ 4096
@@ -47,7 +38,7 @@ right-at : (i : ℕ) → i < 4096 → Rule (i / 2048) (i % 2048) (unpack 8 (getD
 unfolding right
 right-at i h =
     go (i / 2048) (i % 2048) (unpack 8 (getD rows i 0)) (getD rows i 0)
-    (at right rows (and-left (every right 0 rows) (ascBy rowKey 0 rows) tested) i (omega (arith, count)))
+    (at right rows tested i (omega (arith, count)))
   where
     go : (c i : ℕ) (v : List ℕ) (w : ℕ) → T (rule c i v w) → Rule c i v w
     go c i v w t = split4 (eqb (class v) c) (inClass c v) (Bool·beq (inMiddle v) (ltb i (middleRows c))) (eqb (pack v) w) t
@@ -76,15 +67,6 @@ row-middle i h = beq-eq (inMiddle (unpack 8 (getD rows i 0))) (ltb (i % 2048) (m
 pub row-packed : (i : ℕ) → i < 4096 → pack (rowRanks i) ≡ getD rows i 0
 unfolding rowRanks
 row-packed i h = eqb→eq _ _ (right-at i h .3)
-
-pub row-below : (i : ℕ) → T (ranksBelow 16 (rowRanks i))
-unfolding rowRanks
-row-below i = unpack-below 8 (getD rows i 0)
-
-pub rows-ascend : (i j : ℕ) → i < j → j < 4096 → tableKey (rowRanks i) < tableKey (rowRanks j)
-unfolding rowKey rowRanks
-rows-ascend i j h k =
-    asc-lt rowKey 0 rows (and-right (every right 0 rows) (ascBy rowKey 0 rows) tested) i j h (omega (arith, count))
 
 -- no rank is above 4
 pub row-ranks : (i : ℕ) → i < 4096 → T (ranksBelow (maxRank + 1) (rowRanks i))

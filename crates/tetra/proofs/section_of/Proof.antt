@@ -15,7 +15,7 @@ use Rattle.laws.specs.Lists.{filled-more}
 use Rattle.rank.specs.Coord.{valOf}
 use Rattle.rank.specs.Section.{pointAt}
 use Rattle.rank.specs.Laws.Section.{point-length}
-use Rattle.rows.specs.Laws.Vectors.{below-at}
+use Rattle.rank.specs.Laws.Vector.{below-at}
 use Rattle.tetra.specs.Laws.Point.{point-at}
 use Rattle.tetra.proofs.section_of.Statement.{statement}
 use Rattle.tetra.proofs.section_of.Tie as tie

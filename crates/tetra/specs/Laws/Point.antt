@@ -17,11 +17,10 @@ use Rattle.word.specs.Word.{Narrow}
 use Rattle.word.specs.declared.Fields.{Fields}
 use Rattle.rank.specs.Coord.{rankOf, valOf}
 use Rattle.rank.specs.Vector.{ranksBelow, kZero, class}
-use Rattle.rank.specs.Laws.Vector.{rank-first, rank-rest}
+use Rattle.rank.specs.Laws.Vector.{rank-first, rank-rest, below-up, more-below, below-at}
 use Rattle.rank.specs.Section.{pointAt, uniform, bitsOf, ranksOf, kSum}
 use Rattle.rank.specs.Laws.Section.{point-uniform, point-bits, point-ranks, point-length, k-sum}
 use Rattle.rows.specs.Table.{rowRanks, middleClass, middleRow}
-use Rattle.rows.specs.Laws.Vectors.{below-up, more-below, below-at}
 use Rattle.rows.specs.Laws.Rule.{row-class, row-ranks}
 use Rattle.rows.specs.Laws.Places.{number-class}
 use Rattle.rows.specs.Laws.Middle.{middle-lt, middle-row-class}

@@ -18,8 +18,8 @@ use Rattle.rank.specs.Coord.{parityOf, rankOf}
 use Rattle.rank.specs.Vector.{ranksBelow, class, inMiddle}
 use Rattle.rank.specs.Section.{pointAt, uniform, bitsOf, ranksOf, kSum}
 use Rattle.rank.specs.Laws.Section.{point-back}
+use Rattle.rank.specs.Laws.Vector.{below-up, class-ranks, middle-class}
 use Rattle.rows.specs.Table.{rowRanks, classIndexOf, mixedIndexOf, middleRow}
-use Rattle.rows.specs.Laws.Vectors.{below-up, class-ranks, middle-class}
 use Rattle.rows.specs.Laws.Rule.{row-in}
 use Rattle.rows.specs.Laws.Middle.{middle-row-in}
 use Rattle.rows.specs.Answers.{class-index-in, class-index-row, mixed-index-in, mixed-index-row, mixed-index-back}
