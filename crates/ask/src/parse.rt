@@ -37,34 +37,25 @@ enum Digits {
     Bad,
 }
 
-// The end of the line's first word, which names the request.
-pub(crate) fn name_end(s: &[u8]) -> usize {
+// The place after the line's first word where that is `name`; else 0.
+pub(crate) fn after_name(s: &[u8], name: &[u8]) -> usize {
     let mut i = 0;
-    while i < s.len() {
-        if s[i] == b' ' {
-            return i;
-        }
-        i += 1;
-    }
-    i
-}
-
-// Whether the first n bytes are the name.
-pub(crate) fn is_name(s: &[u8], n: usize, name: &[u8]) -> bool {
-    if n != name.len() {
-        return false;
-    }
-    let mut i = 0;
-    while i < n {
+    while i < name.len() {
         if s.len() <= i {
-            return false;
+            return 0;
         }
         if s[i] != name[i] {
-            return false;
+            return 0;
         }
         i += 1;
     }
-    true
+    if i >= s.len() {
+        return i;
+    }
+    if s[i] != b' ' {
+        return 0;
+    }
+    i
 }
 
 // The place after the byte b where that stands at `at`; else `at`.

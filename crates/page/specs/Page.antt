@@ -1,4 +1,4 @@
--- The trace page, edition 1, as document 01 has it: a text for each num and each list of words. Assumes nothing.
+-- The trace page, as document 01 has it: a text for each num and each list of words. Assumes nothing.
 use mathlib.Core.Path.{_≡_}
 use mathlib.Core.List.{List, [], _∷_, _++_}
 use Prim.Native.Nat.{ℕ, _^_, _<_, _≤_}

@@ -85,8 +85,10 @@ loop-less c = search needs
 loop-again : tie.Need-loop-again Inv-loop μ-loop
 loop-again c =
     let d = c .before .before .before in
-    let i = d .before .before .before in
-    (omega arith, one-more (i .before .loop .j) _ _ _ _ _ (whole i) (d .if3 .left) (c .before .before .if4 .left) (c .before .if5 .left) (c .if6 .left))
+    let i = d .before .before .before in (
+      omega arith,
+      one-more (i .before .loop .j) _ _ _ _ _ (whole i) (d .if3 .left) (c .before .before .if4 .left) (c .before .if5 .left) (c .if6 .left),
+    )
 
 returns-7 : tie.Need-returns-7 Inv-loop μ-loop
 returns-7 c =
