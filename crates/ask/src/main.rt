@@ -161,23 +161,28 @@ fn score(s: &[u8], at: usize, out: &mut [u8], to: usize) -> usize {
 }
 
 fn answer(s: &[u8], out: &mut [u8], to: usize) -> usize {
-    let at = parse::name_end(s);
-    if parse::is_name(s, at, b"decode") {
+    let at = parse::after_name(s, b"decode");
+    if at > 0 {
         return decode(s, at, out, to);
     }
-    if parse::is_name(s, at, b"point") {
+    let at = parse::after_name(s, b"point");
+    if at > 0 {
         return point(s, at, out, to);
     }
-    if parse::is_name(s, at, b"scale") {
+    let at = parse::after_name(s, b"scale");
+    if at > 0 {
         return scale(s, at, out, to);
     }
-    if parse::is_name(s, at, b"auto") {
+    let at = parse::after_name(s, b"auto");
+    if at > 0 {
         return auto(s, at, out, to);
     }
-    if parse::is_name(s, at, b"lower") {
+    let at = parse::after_name(s, b"lower");
+    if at > 0 {
         return lower(s, at, out, to);
     }
-    if parse::is_name(s, at, b"score") {
+    let at = parse::after_name(s, b"score");
+    if at > 0 {
         return score(s, at, out, to);
     }
     refused(out, to, 9)

@@ -37,34 +37,25 @@ enum Digits {
     Bad,
 }
 
-// The end of the line's first word, which names the request.
-pub(crate) fn name_end(s: &[u8]) -> usize {
+// The place after the line's first word where that is `name`; else 0.
+pub(crate) fn after_name(s: &[u8], name: &[u8]) -> usize {
     let mut i = 0;
-    while i < s.len() {
-        if s[i] == b' ' {
-            return i;
-        }
-        i += 1;
-    }
-    i
-}
-
-// Whether the first n bytes are the name.
-pub(crate) fn is_name(s: &[u8], n: usize, name: &[u8]) -> bool {
-    if n != name.len() {
-        return false;
-    }
-    let mut i = 0;
-    while i < n {
+    while i < name.len() {
         if s.len() <= i {
-            return false;
+            return 0;
         }
         if s[i] != name[i] {
-            return false;
+            return 0;
         }
         i += 1;
     }
-    true
+    if i >= s.len() {
+        return i;
+    }
+    if s[i] != b' ' {
+        return 0;
+    }
+    i
 }
 
 // The place after the byte b where that stands at `at`; else `at`.
@@ -112,21 +103,65 @@ fn hex_digit(b: u8) -> Digits {
     Digits::Bad
 }
 
-fn hex_from(s: &[u8], first: usize) -> Number {
+// v with one hex digit more. The first of 17 is lost, which `counted` refuses.
+fn hex_more(v: u64, b: u8) -> Digits {
+    let Digits::Value(d) = hex_digit(b) else {
+        return Digits::Bad;
+    };
+    Digits::Value((v << 4) | d)
+}
+
+// ---- decimal digits
+
+// v with one decimal digit more, where that fits.
+fn decimal_more(v: u64, b: u8) -> Digits {
+    if b < b'0' {
+        return Digits::Bad;
+    }
+    if b > b'9' {
+        return Digits::Bad;
+    }
+    if v > u64::MAX / 10 {
+        return Digits::Bad;
+    }
+    let d = (b - b'0') as u64;
+    let tens = v * 10;
+    if d > u64::MAX - tens {
+        return Digits::Bad;
+    }
+    Digits::Value(tens + d)
+}
+
+// ---- numbers of either kind
+const HEX: bool = true;
+
+const DECIMAL: bool = false;
+
+fn more(v: u64, b: u8, hex: bool) -> Digits {
+    if hex {
+        return hex_more(v, b);
+    }
+    decimal_more(v, b)
+}
+
+// The number of the 1 to `most` digits from `first` to the next space or the line's end.
+fn number_from(s: &[u8], first: usize, hex: bool, most: usize) -> Number {
     let mut v: u64 = 0;
     let mut i = first;
     while i < s.len() {
         if s[i] == b' ' {
-            return counted(v, first, i, 16);
+            return counted(v, first, i, most);
         }
-        let Digits::Value(d) = hex_digit(s[i]) else {
+        let Digits::Value(w) = more(v, s[i], hex) else {
             return Number::Bad;
         };
-        v = (v << 4) | d;
+        v = w;
         i += 1;
     }
-    counted(v, first, i, 16)
+    counted(v, first, i, most)
 }
+
+// ---- arguments
 
 // 1 to 16 hex digits.
 pub(crate) fn read_hex(s: &[u8], at: usize) -> Number {
@@ -134,7 +169,7 @@ pub(crate) fn read_hex(s: &[u8], at: usize) -> Number {
     if first == at {
         return Number::Bad;
     }
-    hex_from(s, first)
+    number_from(s, first, HEX, 16)
 }
 
 // The double of these bits. All NaN's bits give the one NaN.
@@ -177,50 +212,13 @@ pub(crate) fn read_samples(s: &[u8], at: usize) -> Samples {
     }
 }
 
-// ---- decimal digits
-
-// v with one digit more, where that fits.
-fn more(v: u64, b: u8) -> Digits {
-    if b < b'0' {
-        return Digits::Bad;
-    }
-    if b > b'9' {
-        return Digits::Bad;
-    }
-    if v > u64::MAX / 10 {
-        return Digits::Bad;
-    }
-    let d = (b - b'0') as u64;
-    let tens = v * 10;
-    if d > u64::MAX - tens {
-        return Digits::Bad;
-    }
-    Digits::Value(tens + d)
-}
-
-fn decimal_from(s: &[u8], first: usize) -> Number {
-    let mut v: u64 = 0;
-    let mut i = first;
-    while i < s.len() {
-        if s[i] == b' ' {
-            return counted(v, first, i, s.len());
-        }
-        let Digits::Value(w) = more(v, s[i]) else {
-            return Number::Bad;
-        };
-        v = w;
-        i += 1;
-    }
-    counted(v, first, i, s.len())
-}
-
 // One or more decimal digits.
 pub(crate) fn read_decimal(s: &[u8], at: usize) -> Number {
     let first = after(s, at, b' ');
     if first == at {
         return Number::Bad;
     }
-    decimal_from(s, first)
+    number_from(s, first, DECIMAL, s.len())
 }
 
 // -n, which is !(n - 1).
@@ -248,7 +246,7 @@ pub(crate) fn read_signed(s: &[u8], at: usize) -> Signed {
         return Signed::Bad;
     }
     let digits = after(s, first, b'-');
-    let Number::Read(n, next) = decimal_from(s, digits) else {
+    let Number::Read(n, next) = number_from(s, digits, DECIMAL, s.len()) else {
         return Signed::Bad;
     };
     if digits == first {

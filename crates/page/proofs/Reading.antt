@@ -1,11 +1,12 @@
 -- What the readers' definitions hand on from one byte of a text to the next. Assumes nothing.
-use mathlib.Core.Path.{_≡_, refl, ap}
+use mathlib.Core.Path.{_≡_, refl, ap, sym, _∙_}
 use mathlib.Core.Bool.{true, false, cond, _&&_}
 use mathlib.Core.List.{List, [], _∷_}
 use Prim.Native.Nat.{ℕ, suc, _+_, _*_, _-_, _^_, _<_, _≤_}
 use native.Mathlib.Nat.{pow-le-pow-right, lt-of-lt-of-le}
 use native.Mathlib.Numerals.{add-one}
 use native.Mathlib.Omega.{arith}
+use borrow.Author.Tests.{lt-ltb, le-ltb, ne-eqb}
 use lib.Dec.{ltb, eqb, lit<}
 use lib.ListN.{length, getD, take, drop, length-append, length-drop, drop-of-length-le}
 use lib.Seq.{take-all}
@@ -49,6 +50,17 @@ byByte most v j b rest =
     cond (eqb b 10) (cond (eqb j 0) Bad (Good v (j + 1)))
     (cond (ltb b 48) Bad
     (cond (ltb 57 b) Bad (cond (ltb most (v * 10 + (b - 48))) Bad (cond (ltb 0 j && eqb v 0) Bad rest))))
+
+-- a digit, where x is what the text is read as: the number grows past `most`, or the digit stands behind a leading zero, or it is one more
+module _ (j most v b : ℕ) (rest x : Line) (e : x ≡ byByte most v j b rest) (h : 48 ≤ b) (k : b ≤ 57) where
+  pub too-large : most < v * 10 + (b - 48) → Bad ≡ x
+  too-large l = sym (e ∙ rw (ne-eqb b 10 (λ q. omega arith), le-ltb b 48 h, le-ltb 57 b k, lt-ltb most (v * 10 + (b - 48)) l))
+
+  pub behind-zero : v * 10 + (b - 48) ≤ most → (ltb 0 j && eqb v 0) ≡ true → Bad ≡ x
+  behind-zero l z = sym (e ∙ rw (ne-eqb b 10 (λ q. omega arith), le-ltb b 48 h, le-ltb 57 b k, le-ltb most (v * 10 + (b - 48)) l, z))
+
+  pub one-more : v * 10 + (b - 48) ≤ most → (ltb 0 j && eqb v 0) ≡ false → rest ≡ x
+  one-more l z = sym (e ∙ rw (ne-eqb b 10 (λ q. omega arith), le-ltb b 48 h, le-ltb 57 b k, le-ltb most (v * 10 + (b - 48)) l, z))
 
 pub decimal-step : (most v j : ℕ) (s : List ℕ) → j < length s
     → decimalAt most v j (drop j s)

@@ -1,4 +1,4 @@
--- The trace page, edition 1, as document 01 has it: a text for each num and each list of words. Assumes nothing.
+-- The trace page, as document 01 has it: a text for each num and each list of words. Assumes nothing.
 use mathlib.Core.Path.{_≡_}
 use mathlib.Core.List.{List, [], _∷_, _++_}
 use Prim.Native.Nat.{ℕ, _^_, _<_, _≤_}
@@ -29,10 +29,14 @@ wordLines (w ∷ ws) = wordLine w ++ wordLines ws
 unfoldable pub pageText : ℕ → List ℕ → List ℕ
 pageText num words = formatLine ++ (numLine num ++ (countLine (length words) ++ wordLines words))
 
+-- each word fits 48 bits
+abbrev pub Fit : List ℕ → Type 0
+Fit words = (k : ℕ) → k < length words → getD words k 0 < 2 ^ 48
+
 -- the text is a page, with this num and these words
 pub record Page (text : List ℕ) (num : ℕ) (words : List ℕ) : Type 0 where
   pub num-least : 1 ≤ num
   pub num-most : num ≤ 65535
   pub count-most : length words ≤ 64
-  pub words-fit : (k : ℕ) → k < length words → getD words k 0 < 2 ^ 48
+  pub words-fit : Fit words
   pub text-is : text ≡ pageText num words

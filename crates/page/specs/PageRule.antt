@@ -1,51 +1,28 @@
 -- The page rule: the reader accepts just the texts that Page.antt calls pages, each with its num and its words. Assumes nothing.
 use mathlib.Core.Path.{_≡_, refl, ap, ap₂, sym, _∙_}
 use mathlib.Core.Bool.{Bool, true, false}
-use mathlib.Core.List.{List, [], _∷_, _++_}
-use Prim.Native.Nat.{ℕ, zero, suc, _+_, _*_, _^_, _<_, _≤_, suc-le-suc}
+use mathlib.Core.List.{List, _++_}
+use Prim.Native.Nat.{ℕ, _+_, _*_, _<_, _≤_}
 use native.Mathlib.Omega.{arith}
-use native.Mathlib.Nat.{zero-lt-suc, le-of-suc-le-suc, not-suc-le-zero}
 use borrow.Author.Tests.{lt-ltb, le-ltb, ltb-true, ltb-false}
 use lib.Dec.{ltb}
 use lib.IntN.{ℤ}
-use lib.ListN.{length, getD, take, drop, length-append}
-use lib.Seq.{drop-append-seam, take-all, length-take-le}
-use Rattle.page.specs.declared.line.Line.{Line}
-use Rattle.page.specs.declared.line.Line.the-variants.{Good, Bad}
+use lib.ListN.{length, take, drop, length-append}
+use lib.Seq.{take-all, length-take-le}
 use Rattle.page.specs.Text.{bytes, decimal}
-use Rattle.page.specs.Laws.Text.{decimal-fits}
-use Rattle.page.specs.Page.{Page, formatLine, numLine, countLine, wordLine, wordLines, pageText}
+use Rattle.page.specs.Page.{Fit, Page, formatLine, numLine, countLine, wordLines, pageText}
 use Rattle.page.specs.Counts.{pageCounts}
 use Rattle.page.specs.Answer.{Reading, page, malformed, readOf, cellsOf}
-use Rattle.page.specs.Reader.{onLine, formatAt, wordLineAt, withWord, wordsAt, countAt, numAt, readingOf}
-use Rattle.page.specs.Laws.Reader.{LineRule, format-rule, decimal-rule, word-rule, word-length}
-
--- each word fits 48 bits
-abbrev pub Fit : List ℕ → Type 0
-Fit words = (k : ℕ) → k < length words → getD words k 0 < 2 ^ 48
-
-fit-cons : (w : ℕ) (ws : List ℕ) → w < 2 ^ 48 → Fit ws → Fit (w ∷ ws)
-fit-cons w ws h f zero l = h
-fit-cons w ws h f (suc k) l = f k (le-of-suc-le-suc l)
+use Rattle.page.specs.Reader.{formatAt, wordsAt, countAt, numAt, readingOf}
+use Rattle.page.specs.Laws.Text.{decimal-fits}
+use Rattle.page.specs.Laws.Reader.{format-rule, decimal-rule}
+use Rattle.page.specs.Laws.Lines.{step, taken, words-back, words-only, lines-length, differ}
 
 -- ---- each num and each list of words within the bounds have a page
 pub page-of : (num : ℕ) (words : List ℕ) → 1 ≤ num → num ≤ 65535 → length words ≤ 64 → Fit words → Page (pageText num words) num words
 page-of num words a b c f = record { num-least = a; num-most = b; count-most = c; words-fit = f; text-is = refl }
 
 -- ---- from a page to its reading
--- a line that is there is taken off
-step : (read : List ℕ → Line) (fine : ℕ → Type 0) (lineOf : ℕ → List ℕ) → LineRule read fine lineOf → (v : ℕ) → fine v
-    → (rest : List ℕ) (f : ℕ → List ℕ → Reading)
-    → onLine (read (lineOf v ++ rest)) malformed (λ x n. f x (drop n (lineOf v ++ rest))) ≡ f v rest
-step read fine lineOf rule v h rest f = rw (rule .back v h rest, drop-append-seam (lineOf v) rest)
-
-words-back : (num : ℕ) (words : List ℕ) → Fit words → wordsAt num (length words) (wordLines words) ≡ page num words
-unfolding wordsAt wordLines
-words-back num [] f = refl
-words-back num (w ∷ ws) f =
-    step wordLineAt _ wordLine word-rule w (f zero (zero-lt-suc (length ws))) (wordLines ws) (λ x t. withWord x (wordsAt num (length ws) t))
-    ∙ ap (withWord w) (words-back num ws (λ k l. f (suc k) (suc-le-suc l)))
-
 pub accepted : (text : List ℕ) (num : ℕ) (words : List ℕ) → Page text num words → readingOf text ≡ page num words
 unfolding readingOf numAt countAt pageText numLine countLine
 accepted text num words p =
@@ -56,41 +33,6 @@ accepted text num words p =
     ∙ words-back num words (p .words-fit)
 
 -- ---- from a reading to its page
--- a line was there: its value, and what follows it
-taken : (read : List ℕ → Line) (fine : ℕ → Type 0) (lineOf : ℕ → List ℕ) → LineRule read fine lineOf
-    → (s : List ℕ) (f : ℕ → List ℕ → Reading) (num : ℕ) (words : List ℕ) → onLine (read s) malformed (λ x n. f x (drop n s)) ≡ page num words
-    → (v : ℕ) × (rest : List ℕ) × fine v × (s ≡ lineOf v ++ rest) × (f v rest ≡ page num words)
-taken read fine lineOf rule s f num words = go (read s) refl
-  where
-    go : (l : Line) → read s ≡ l → onLine l malformed (λ x n. f x (drop n s)) ≡ page num words
-        → (v : ℕ) × (rest : List ℕ) × fine v × (s ≡ lineOf v ++ rest) × (f v rest ≡ page num words)
-    go (Good v n) h e =
-        let o = rule .only s v n h in
-        (v, drop n s, o .0, o .2, e)
-    go Bad h e = let z : _≡_ {A = ℕ} 0 1 = cc in absurd (omega arith)
-
-words-only : (num count : ℕ) (s : List ℕ) (x : ℕ) (words : List ℕ) → wordsAt num count s ≡ page x words
-    → (num ≡ x) × (count ≡ length words) × Fit words × (s ≡ wordLines words)
-unfolding wordsAt wordLines
-words-only num zero [] x words e =
-    let y : num ≡ x = cc in
-    let z : [] ≡ words = cc in
-    (y, ap length z, rw (← z) (λ k l. absurd (not-suc-le-zero l)), ap wordLines z)
-words-only num zero (b ∷ s) x words e = let z : _≡_ {A = ℕ} 0 1 = cc in absurd (omega arith)
-words-only num (suc count) s x words e =
-    let t = taken wordLineAt _ wordLine word-rule s (λ w r. withWord w (wordsAt num count r)) x words e in
-    go (t .0) (t .1) (t .2) (t .3) (wordsAt num count (t .1)) refl (t .4) (words-only num count (t .1))
-  where
-    go : (w : ℕ) (r : List ℕ) → w < 2 ^ 48 → s ≡ wordLine w ++ r → (R : Reading) → wordsAt num count r ≡ R → withWord w R ≡ page x words
-        → ((y : ℕ) (ws : List ℕ) → wordsAt num count r ≡ page y ws → (num ≡ y) × (count ≡ length ws) × Fit ws × (r ≡ wordLines ws))
-        → (num ≡ x) × (suc count ≡ length words) × Fit words × (s ≡ wordLines words)
-    go w r h q (page y ws) k e ih =
-        let i = ih y ws k in
-        let m : y ≡ x = cc in
-        let n : w ∷ ws ≡ words = cc in
-        (i .0 ∙ m, ap suc (i .1) ∙ ap length n, rw (← n) (fit-cons w ws h (i .2)), q ∙ ap (λ (l : List ℕ). wordLine w ++ l) (i .3) ∙ ap wordLines n)
-    go w r h q malformed k e ih = let z : _≡_ {A = ℕ} 0 1 = cc in absurd (omega arith)
-
 pub only-pages : (text : List ℕ) (num : ℕ) (words : List ℕ) → readingOf text ≡ page num words → Page text num words
 unfolding readingOf numAt countAt pageText numLine countLine
 only-pages text num words e =
@@ -115,9 +57,6 @@ only-pages text num words e =
 abbrev pub Reads : List ℕ → Reading → Type 0
 Reads text (page num words) = Page text num words
 Reads text malformed = (num : ℕ) (words : List ℕ) → Page text num words → ⊥
-
-differ : {num : ℕ} {words : List ℕ} → malformed ≡ page num words → ⊥
-differ e = let z : _≡_ {A = ℕ} 0 1 = cc in omega arith
 
 -- the reader is right about every text
 pub reads : (text : List ℕ) → Reads text (readingOf text)
@@ -146,11 +85,6 @@ one-page text num x words ws p q =
     (cc, cc)
 
 -- ---- the longest page has 1,189 bytes
-lines-length : (words : List ℕ) → length (wordLines words) ≡ 18 * length words
-unfolding wordLines
-lines-length [] = refl
-lines-length (w ∷ ws) = length-append (wordLine w) (wordLines ws) ∙ omega (arith, word-length w, lines-length ws)
-
 pub longest : (text : List ℕ) (num : ℕ) (words : List ℕ) → Page text num words → length text ≤ 1189
 unfolding pageText formatLine numLine countLine
 longest text num words p =

@@ -23,11 +23,13 @@ onDigit (Value d) b f = f d
 onDigit Other b f = b
 
 -- ---- keys and numbers
+-- whether a text begins with a key
 unfoldable pub begins : List ℕ → List ℕ → Bool
 begins s [] = true
 begins [] (k ∷ ks) = false
 begins (b ∷ s) (k ∷ ks) = eqb b k && begins s ks
 
+-- what a byte stands for: 48 to 57 are the figures, 97 to 102 the letters a to f
 unfoldable pub digitAt : ℕ → Digit
 digitAt b =
     cond (ltb b 48) Other
@@ -48,7 +50,7 @@ decimalAt most v j (b ∷ s) =
     (cond (ltb most (v * 10 + (b - 48))) Bad
     (cond (ltb 0 j && eqb v 0) Bad (decimalAt most (v * 10 + (b - 48)) (j + 1) s)))))
 
--- ---- lines
+-- ---- lines: each answers its value and how many bytes it takes, its LF included
 unfoldable pub formatAt : List ℕ → Line
 formatAt s = cond (begins s formatLine) (Good 0 18) Bad
 

@@ -41,6 +41,6 @@ unfoldable pub printed : Reading → List ℕ
 printed (page num words) = blockTexts 0 (length words) (pageCounts num words)
 printed malformed = refusedText 9
 
--- a text in an array of 20,672 bytes
+-- a text in an array of 20,672 bytes, with zeros behind it
 abbrev pub inArray : List ℕ → Printed
 inArray text = record { length = length text; bytes = text ++ replicate (20672 - length text) 0 }

@@ -13,7 +13,8 @@ bytes quoted.[] = []
 bytes (quoted._∷_ c s) = code c ∷ bytes s
 
 -- ---- decimal: no sign, no leading zero except 0 itself
--- 48 is the byte of the digit 0. n < 10 is one digit; any other n is n / 10 with the digit n % 10 behind it. f is at least the number of digits
+-- 48 is the byte of the digit 0. n < 10 is one digit; any other n is n / 10 with the digit n % 10 behind it. There are f digits at most, of
+-- which n + 1 are always enough
 abbrev pub decimalBy : ℕ → ℕ → List ℕ
 decimalBy zero n = []
 decimalBy (suc f) n = cond (ltb n 10) ((48 + n) ∷ []) (decimalBy f (n / 10) ++ ((48 + n % 10) ∷ []))

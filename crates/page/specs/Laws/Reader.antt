@@ -20,22 +20,33 @@ use Rattle.page.specs.Page.{line, formatLine, wordLine}
 use Rattle.page.specs.Reader.{onLine, onDigit, begins, digitAt, hexAt, decimalAt, formatAt, decimalLineAt, wordLineAt}
 
 -- ---- a digit
+module _ (b : ℕ) where
+  pub below-figures : b < 48 → digitAt b ≡ Other
+  unfolding digitAt
+  below-figures h = rw (lt-ltb b 48 h)
+
+  pub figure : 48 ≤ b → b ≤ 57 → digitAt b ≡ Value (b - 48)
+  unfolding digitAt
+  figure h k = rw (le-ltb b 48 h, le-leb b 57 k)
+
+  pub below-letters : 57 < b → b < 97 → digitAt b ≡ Other
+  unfolding digitAt
+  below-letters h k = rw (le-ltb b 48 (omega arith), lt-leb b 57 h, lt-ltb b 97 k)
+
+  pub letter : 97 ≤ b → b ≤ 102 → digitAt b ≡ Value (b - 87)
+  unfolding digitAt
+  letter h k = rw (le-ltb b 48 (omega arith), lt-leb b 57 (omega arith), le-ltb b 97 h, le-leb b 102 k)
+
+  pub above-letters : 102 < b → digitAt b ≡ Other
+  unfolding digitAt
+  above-letters h = rw (le-ltb b 48 (omega arith), lt-leb b 57 (omega arith), le-ltb b 97 (omega arith), lt-leb b 102 h)
+
 pub digit-back : (d : ℕ) → d < 16 → digitAt (hexDigit d) ≡ Value d
-unfolding digitAt
 digit-back d h = go (ltb d 10) refl
   where
     go : (p : Bool) → ltb d 10 ≡ p → digitAt (cond p (48 + d) (87 + d)) ≡ Value d
-    go true e =
-        let l = ltb-true d 10 e in
-        rw (le-ltb (48 + d) 48 (omega arith), le-leb (48 + d) 57 (omega arith)) (ap Value (omega arith))
-    go false e =
-        let l = ltb-false d 10 e in
-        rw (
-          le-ltb (87 + d) 48 (omega arith),
-          lt-leb (87 + d) 57 (omega arith),
-          le-ltb (87 + d) 97 (omega arith),
-          le-leb (87 + d) 102 (omega arith),
-        ) (ap Value (omega arith))
+    go true e = figure (48 + d) (omega arith) (omega (arith, ltb-true d 10 e)) ∙ ap Value (omega arith)
+    go false e = letter (87 + d) (omega (arith, ltb-false d 10 e)) (omega arith) ∙ ap Value (omega arith)
 
 pub digit-only : (b d : ℕ) → digitAt b ≡ Value d → (d < 16) × (hexDigit d ≡ b) × (0 < b)
 unfolding digitAt

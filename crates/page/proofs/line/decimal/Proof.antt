@@ -7,7 +7,7 @@ use Prim.Native.Nat.{_+_, _*_, _-_, _≤_}
 use native.Mathlib.Omega.{arith}
 use lib.ListN.{length, drop, getD}
 use Rattle.page.specs.Reader.{decimalAt}
-use Rattle.page.proofs.Reading.{byByte, decimal-step, decimal-end}
+use Rattle.page.proofs.Reading.{byByte, too-large, behind-zero, one-more, decimal-step, decimal-end}
 use Rattle.page.proofs.line.decimal.Statement.{statement}
 use Rattle.page.proofs.line.decimal.Tie as tie
 
@@ -67,24 +67,14 @@ add-next c = search needs
 
 returns-5 : tie.Need-returns-5 Inv-loop μ-loop
 returns-5 c =
-    sym (whole (c .before .before .before .before .before)
-    ∙ rw (
-      ne-eqb _ _ (c .before .before .before .if1 .left),
-      le-ltb _ _ (c .before .before .if3 .left),
-      le-ltb _ _ (c .before .if4 .left),
-      lt-ltb _ _ (c .if5 .taken),
-    ))
+    let i = c .before .before .before .before .before in
+    too-large (i .before .loop .j) _ _ _ _ _ (whole i) (c .before .before .if3 .left) (c .before .if4 .left) (c .if5 .taken)
 
 returns-6 : tie.Need-returns-6 Inv-loop μ-loop
 returns-6 c =
-    sym (whole (c .before .before .before .before .before .before)
-    ∙ rw (
-      ne-eqb _ _ (c .before .before .before .before .if1 .left),
-      le-ltb _ _ (c .before .before .before .if3 .left),
-      le-ltb _ _ (c .before .before .if4 .left),
-      le-ltb _ _ (c .before .if5 .left),
-      c .if6 .taken,
-    ))
+    let d = c .before .before .before in
+    let i = d .before .before .before in
+    behind-zero (i .before .loop .j) _ _ _ _ _ (whole i) (d .if3 .left) (c .before .before .if4 .left) (c .before .if5 .left) (c .if6 .taken)
 
 add-j : tie.Need-add-j Inv-loop μ-loop
 add-j c = search needs
@@ -93,17 +83,12 @@ loop-less : tie.Need-loop-less Inv-loop μ-loop
 loop-less c = search needs
 
 loop-again : tie.Need-loop-again Inv-loop μ-loop
-loop-again c = (
-  omega arith,
-  sym (whole (c .before .before .before .before .before .before)
-      ∙ rw (
-        ne-eqb _ _ (c .before .before .before .before .if1 .left),
-        le-ltb _ _ (c .before .before .before .if3 .left),
-        le-ltb _ _ (c .before .before .if4 .left),
-        le-ltb _ _ (c .before .if5 .left),
-        c .if6 .left,
-      )),
-)
+loop-again c =
+    let d = c .before .before .before in
+    let i = d .before .before .before in (
+      omega arith,
+      one-more (i .before .loop .j) _ _ _ _ _ (whole i) (d .if3 .left) (c .before .before .if4 .left) (c .before .if5 .left) (c .if6 .left),
+    )
 
 returns-7 : tie.Need-returns-7 Inv-loop μ-loop
 returns-7 c =

@@ -1,24 +1,21 @@
 -- `line::digit_of` meets its contract. Assumes nothing.
 use borrow.Author.Needs.{needs}
-use borrow.Author.Tests.{lt-ltb, le-ltb, le-leb, lt-leb}
-use Rattle.page.specs.Reader.{digitAt}
+use mathlib.Core.Path.{sym}
+use Rattle.page.specs.Laws.Reader.{below-figures, figure, below-letters, letter, above-letters}
 use Rattle.page.proofs.line.digit_of.Statement.{statement}
 use Rattle.page.proofs.line.digit_of.Tie as tie
 
 returns : tie.Need-returns
-unfolding digitAt
-returns c = rw (lt-ltb _ _ (c .if1 .taken))
+returns c = sym (below-figures _ (c .if1 .taken))
 
 cast-t4 : tie.Need-cast-t4
 cast-t4 c = search needs
 
 returns-2 : tie.Need-returns-2
-unfolding digitAt
-returns-2 c = rw (le-ltb _ _ (c .before .if1 .left), le-leb _ _ (c .if2 .taken))
+returns-2 c = sym (figure _ (c .before .if1 .left) (c .if2 .taken))
 
 returns-3 : tie.Need-returns-3
-unfolding digitAt
-returns-3 c = rw (le-ltb _ _ (c .before .before .if1 .left), lt-leb _ _ (c .before .if2 .left), lt-ltb _ _ (c .if3 .taken))
+returns-3 c = sym (below-letters _ (c .before .if2 .left) (c .if3 .taken))
 
 sub-t5 : tie.Need-sub-t5
 sub-t5 c = search needs
@@ -27,24 +24,10 @@ cast-t6 : tie.Need-cast-t6
 cast-t6 c = search needs
 
 returns-4 : tie.Need-returns-4
-unfolding digitAt
-returns-4 c =
-    rw (
-      le-ltb _ _ (c .before .before .before .if1 .left),
-      lt-leb _ _ (c .before .before .if2 .left),
-      le-ltb _ _ (c .before .if3 .left),
-      le-leb _ _ (c .if4 .taken),
-    )
+returns-4 c = sym (letter _ (c .before .if3 .left) (c .if4 .taken))
 
 returns-5 : tie.Need-returns-5
-unfolding digitAt
-returns-5 c =
-    rw (
-      le-ltb _ _ (c .before .before .before .if1 .left),
-      lt-leb _ _ (c .before .before .if2 .left),
-      le-ltb _ _ (c .before .if3 .left),
-      lt-leb _ _ (c .if4 .left),
-    )
+returns-5 c = sym (above-letters _ (c .if4 .left))
 
 pub digit-of-spec : {M : Type 1} → statement M
 digit-of-spec =

@@ -67,8 +67,9 @@ loop-less c = search needs
 
 loop-again : tie.Need-loop-again Inv-loop μ-loop
 loop-again c =
-    let l = c .before .before .before .before .before .before .before .before .before .before .before .loop in
-    let start = c .before .before .before .before .before .before .before .before .before .before .before .before .before .before .before .before .before .before in
+    let i = c .before .before .before .before .before .before .before .before .before .before .before in
+    let l = i .loop in
+    let start = i .before .before .before .before .before .before .before in
     let zs = start .args .t3 in
     let comma = c .before .before .before .before .before .before .before .put in
     let p = comma .ensures in

@@ -1,15 +1,15 @@
--- `ask::parse::hex_from` is safe and ends. The measure is the number of bytes that are left. Assumes nothing.
+-- `ask::parse::number_from` is safe and ends. The measure is the number of bytes that are left. Assumes nothing.
 use borrow.Author.Needs.{needs}
 use Prim.Native.Nat.{_-_}
 use lib.ListN.{length}
-use Rattle.ask.proofs.parse.hex_from.Statement.{statement}
-use Rattle.ask.proofs.parse.hex_from.Tie as tie
+use Rattle.ask.proofs.parse.number_from.Statement.{statement}
+use Rattle.ask.proofs.parse.number_from.Tie as tie
 
 abbrev Inv-loop : tie.InvT-loop
-Inv-loop s first v₀ i₀ v i = Unit {0}
+Inv-loop s first hex most v₀ i₀ v i = Unit {0}
 
 abbrev μ-loop : tie.MeasureT-loop
-μ-loop s first v₀ i₀ v i = length s - i
+μ-loop s first hex most v₀ i₀ v i = length s - i
 
 loop-holds : tie.Need-loop-holds Inv-loop μ-loop
 loop-holds c = search needs
@@ -23,14 +23,14 @@ counted-requires c κs = search needs
 returns : tie.Need-returns Inv-loop μ-loop
 returns c = search needs
 
-shared-slice-read-hex-digit : tie.Need-shared-slice-read-hex-digit Inv-loop μ-loop
-shared-slice-read-hex-digit c = search needs
+shared-slice-read-more : tie.Need-shared-slice-read-more Inv-loop μ-loop
+shared-slice-read-more c = search needs
 
-hex-digit-requires : tie.Need-hex-digit-requires Inv-loop μ-loop
-hex-digit-requires c κs = search needs
+more-requires : tie.Need-more-requires Inv-loop μ-loop
+more-requires c κs = search needs
 
-enum-known-d : tie.Need-enum-known-d Inv-loop μ-loop
-enum-known-d c = search needs
+enum-known-w : tie.Need-enum-known-w Inv-loop μ-loop
+enum-known-w c = search needs
 
 enum-told : tie.Need-enum-told Inv-loop μ-loop
 enum-told c = search needs
@@ -53,8 +53,8 @@ counted-requires-2 c κs = search needs
 returns-3 : tie.Need-returns-3 Inv-loop μ-loop
 returns-3 c = search needs
 
-pub hex-from-spec : {M : Type 1} → statement M
-hex-from-spec =
+pub number-from-spec : {M : Type 1} → statement M
+number-from-spec =
     tie.close
     (tie.spec
     Inv-loop
@@ -63,9 +63,9 @@ hex-from-spec =
     shared-slice-read-if1
     counted-requires
     returns
-    shared-slice-read-hex-digit
-    hex-digit-requires
-    enum-known-d
+    shared-slice-read-more
+    more-requires
+    enum-known-w
     enum-told
     returns-2
     add-i
