@@ -1,3 +1,3 @@
 pub mod Numbers
 pub mod Marks
-pub mod Fives
+pub mod Filled

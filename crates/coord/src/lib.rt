@@ -6,12 +6,12 @@ ghost use lib.IntN.{pos, negsuc, natAbs};
 ghost use lib.ListN.{getD};
 ghost use lib.Signed.{ltZ};
 ghost use lib.Dec.{ltb};
-ghost use lib.Ieee.{lt, nan};
+ghost use lib.Ieee.{nan};
 ghost use Rattle.rank.specs.Vector as vector;
 ghost use Rattle.rank.specs.Answers.{markOf};
 ghost use Rattle.float.specs.Calls.{rounded};
 ghost use Rattle.search.specs.Record.{member, coordFrom, coordOf, shrinks};
-ghost use Rattle.coord.specs.Rows.{coordIn, tableOf, regretsOf, distsOf, weightsOf, ranksOf, oddsOf, upsOf, rowsOf};
+ghost use Rattle.coord.specs.Rows.{coordIn, tableOf, rowsOf};
 ghost use Rattle.coord.specs.Inner.{unbiased, slotOf};
 use search::Coord;
 
@@ -99,11 +99,11 @@ fn first(k: i32) -> u32
     (k + 1048574) as u32
 }
 
-// The side on which the target lies; an exact hit counts as below.
-fn side(z: f64, k: f64) -> i32
-    ensures { λ r. ⌜ r ≡ cond (lt k z) (pos 1) (negsuc 0) ⌝ }
+// The direction from the rounding to the target: up where the target lies above it.
+fn side(above: bool) -> i32
+    ensures { λ r. ⌜ r ≡ cond above (pos 1) (negsuc 0) ⌝ }
 {
-    if z > k {
+    if above {
         return 1;
     }
     -1
@@ -114,7 +114,7 @@ fn record_of(t: f64, o: u32, z: f64, k: i32) -> Coord
     ensures { λ r. ⌜ r ≡ coordFrom t o z k ⌝ }
 {
     let x = k as f64;
-    let dir = side(z, x);
+    let dir = side(z > x);
     let off = float::abs(z - x);
     let kk = first(k);
     let a = slot_of(t, o, kk);
@@ -159,85 +159,7 @@ fn record_at(t: [f64; 8], p: u32, i: usize) -> Coord
     coord_of(t[(i / 2) % 8], shrink_at(i / 16), p + 2 * ((i % 2) as u32))
 }
 
-fn table(t: [f64; 8], p: u32) -> [Coord; 128]
-    requires { ⌜ p < 2 ⌝ }
-    ensures { λ r. ⌜ r ≡ tableOf t p ⌝ }
-{
-    let made = record_at(t, p, 0);
-    let mut v = [made; 128];
-    for i in 0..128usize {
-        v[i] = record_at(t, p, i);
-    }
-    v
-}
-
 // ---- the flat rows
-
-fn regrets(e: [Coord; 128]) -> [f64; 128]
-    ensures { λ r. ⌜ r ≡ regretsOf e ⌝ }
-{
-    let mut v = [0.0f64; 128];
-    for i in 0..128usize {
-        v[i] = e[i].regret;
-    }
-    v
-}
-
-fn dists(e: [Coord; 128]) -> [f64; 640]
-    ensures { λ r. ⌜ r ≡ distsOf e ⌝ }
-{
-    let mut v = [0.0f64; 640];
-    for i in 0..128usize {
-        let c = e[i];
-        v[5 * i] = c.d[0];
-        v[5 * i + 1] = c.d[1];
-        v[5 * i + 2] = c.d[2];
-        v[5 * i + 3] = c.d[3];
-        v[5 * i + 4] = c.d[4];
-    }
-    v
-}
-
-fn weights(e: [Coord; 128]) -> [u16; 640]
-    ensures { λ r. ⌜ r ≡ weightsOf e ⌝ }
-{
-    let mut v = [0u16; 640];
-    for i in 0..128usize {
-        let c = e[i];
-        v[5 * i] = c.w[0];
-        v[5 * i + 1] = c.w[1];
-        v[5 * i + 2] = c.w[2];
-        v[5 * i + 3] = c.w[3];
-        v[5 * i + 4] = c.w[4];
-    }
-    v
-}
-
-fn ranks(e: [Coord; 128]) -> [u8; 640]
-    ensures { λ r. ⌜ r ≡ ranksOf e ⌝ }
-{
-    let mut v = [0u8; 640];
-    for i in 0..128usize {
-        let c = e[i];
-        v[5 * i] = c.rank[0];
-        v[5 * i + 1] = c.rank[1];
-        v[5 * i + 2] = c.rank[2];
-        v[5 * i + 3] = c.rank[3];
-        v[5 * i + 4] = c.rank[4];
-    }
-    v
-}
-
-fn odds(e: [Coord; 128]) -> [u8; 128]
-    ensures { λ r. ⌜ r ≡ oddsOf e ⌝ }
-{
-    let mut v = [0u8; 128];
-    for i in 0..128usize {
-        let c = e[i];
-        v[i] = rank::parity(c.k0) as u8;
-    }
-    v
-}
 
 fn above(dir: i32) -> bool
     ensures { λ r. ⌜ r ≡ ltZ (pos 0) dir ⌝ }
@@ -245,28 +167,29 @@ fn above(dir: i32) -> bool
     0 < dir
 }
 
-fn ups(e: [Coord; 128]) -> [bool; 128]
-    ensures { λ r. ⌜ r ≡ upsOf e ⌝ }
-{
-    let mut v = [false; 128];
-    for i in 0..128usize {
-        let c = e[i];
-        v[i] = above(c.dir);
-    }
-    v
-}
-
-// The rows of a section's eight targets at the parity p modulo 2.
+// The rows of a section's eight targets at the parity p modulo 2, record by record.
 pub fn rows_of(t: [f64; 8], p: u32) -> Rows
     ensures { λ r. ⌜ r ≡ rowsOf (tableOf t (p % 2)) ⌝ }
 {
-    let e = table(t, p % 2);
-    let regret = regrets(e);
-    let dist = dists(e);
-    let weight = weights(e);
-    let rank = ranks(e);
-    let odd = odds(e);
-    let up = ups(e);
+    let low = p % 2;
+    let mut regret = [0.0f64; 128];
+    let mut dist = [0.0f64; 640];
+    let mut weight = [0u16; 640];
+    let mut rank = [0u8; 640];
+    let mut odd = [0u8; 128];
+    let mut up = [false; 128];
+    for i in 0..128usize {
+        let c = record_at(t, low, i);
+        regret[i] = c.regret;
+        odd[i] = rank::parity(c.k0) as u8;
+        up[i] = above(c.dir);
+        for f in 0..5usize {
+            let k = 5 * i + f;
+            dist[k] = c.d[f];
+            weight[k] = c.w[f];
+            rank[k] = c.rank[f];
+        }
+    }
     Rows {
         regret,
         dist,
