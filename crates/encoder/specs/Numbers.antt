@@ -1,6 +1,6 @@
 -- The number of each call, and that its code is empty where the number is not 0: 7 at the setting 0, then 3, 1, 2, 4 at a scale; 7, 1, 2 where
 -- the samples give the scale, so 3 and 4 never. Assumes nothing.
-use mathlib.Core.Path.{_≡_, refl, sym, ap, _∙_}
+use mathlib.Core.Path.{_≡_, refl, sym, _∙_}
 use mathlib.Core.Bool.{Bool, true, false, cond}
 use mathlib.Core.Logic.{_↔_}
 use mathlib.Core.List.{List}

@@ -1,7 +1,6 @@
 // Samples to codes: the public calls of the sample encoder, `code_of`, `encode_at_scale`, `two_scales` and `encode` of encoder.rs.
 ghost use mathlib.Core.Path.{_≡_};
 ghost use Prim.Native.Nat.{_+_, _<_, _≤_, ℕ};
-ghost use lib.IntN.{pos};
 ghost use lib.ListN.{getD};
 ghost use lib.Ieee.{nan};
 ghost use Rattle.laws.specs.Lists.{tab};

@@ -1,5 +1,5 @@
 -- A path read from the flat rows is the path of the entries, so a turn of each loop is a step of its definition. Assumes nothing.
-use mathlib.Core.Path.{_≡_, _∙_, ap, ap₂}
+use mathlib.Core.Path.{_≡_, refl, sym, _∙_, ap, ap₂}
 use mathlib.Core.Bool.{Bool, true, false, cond, _&&_}
 use mathlib.Core.List.{List}
 use Prim.Native.Nat.{ℕ, suc, _/_, _%_, _<_}
@@ -38,6 +38,19 @@ module _ (p : ℕ) (s : Sides) (v1 v2 v3 : List Float) (h : ValuesOf s v1 v2 v3)
       → best ≡ rowTo tables p s i1 way t → x ≡ keep (wayBy v1 v2 v3 i1 i2 i3) best → x ≡ rowTo tables p s i1 way (suc t)
   unfolding rowTo
   row-more way t ht q2 q3 hb hx = hx ∙ ap₂ keep (way-at t ht q2 q3) hb
+
+-- an end entry is passed over, or its row is taken up
+module _ (p : ℕ) (s : Sides) (i1 : ℕ) (best : Way) {v : Float} (q : v ≡ entAt (s .e1) i1 .value) where
+  test-of : {t : Bool} {x : Way} → le (best .cost) v ≡ t → x ≡ cond t best (rowTo tables p s i1 best 32)
+      → x ≡ cond (le (best .cost) (entAt (s .e1) i1 .value)) best (rowTo tables p s i1 best 32)
+  test-of h hx = hx ∙ sym (ap (λ (t : Bool). cond t best (rowTo tables p s i1 best 32)) (ap (le (best .cost)) (sym q) ∙ h))
+
+  pub passed-over : le (best .cost) v ≡ true → best ≡ cond (le (best .cost) (entAt (s .e1) i1 .value)) best (rowTo tables p s i1 best 32)
+  passed-over h = test-of h refl
+
+  pub taken-up : {x : Way} → le (best .cost) v ≡ false → x ≡ rowTo tables p s i1 best 32
+      → x ≡ cond (le (best .cost) (entAt (s .e1) i1 .value)) best (rowTo tables p s i1 best 32)
+  taken-up h hx = test-of h hx
 
 -- one end entry more of the join
 pub join-more : (p : ℕ) (s : Sides) (n : ℕ) {best x : Way} → best ≡ joinTo tables p s n

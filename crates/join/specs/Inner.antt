@@ -7,6 +7,7 @@ use lib.ListN.{getD}
 use lib.Ieee.{Float, nan}
 use Rattle.search.specs.declared.Entry.{Entry}
 use Rattle.search.specs.Join.{Sides, entAt}
+use Rattle.join.specs.declared.Fields.{Fields}
 
 -- v holds the values of the first n entries, x whether each is exact
 abbrev pub Values : ℕ → List Entry → List Float → Type 0
@@ -25,3 +26,8 @@ pub record ExactsOf (s : Sides) (x1 x2 x3 : List Bool) : Type 0 where
   pub first : Exacts 128 (s .e1) x1
   pub mid : Exacts 256 (s .e2) x2
   pub last : Exacts 128 (s .e3) x3
+
+-- and of all six rows
+pub record FieldsOf (s : Sides) (f : Fields) : Type 0 where
+  pub values : ValuesOf s (f .v1) (f .v2) (f .v3)
+  pub exacts : ExactsOf s (f .x1) (f .x2) (f .x3)

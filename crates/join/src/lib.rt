@@ -7,22 +7,14 @@ ghost use Prim.Native.Nat.{_<_, _%_};
 ghost use lib.Ieee.{lt, le};
 ghost use Rattle.trellis.specs.Tables.{nexts};
 ghost use Rattle.search.specs.Tables.{branchEntries, tables};
-ghost use Rattle.search.specs.Solve.{infinity};
 ghost use Rattle.search.specs.Join.{Sides, midAt, lastAt, entAt, rowTo, joinTo, join};
 ghost use Rattle.search.specs.Parity.{lower, boundsTo};
-ghost use Rattle.join.specs.Inner.{Values, Exacts, ValuesOf, ExactsOf};
+ghost use Rattle.join.specs.Inner.{ValuesOf, ExactsOf, FieldsOf};
 use search::Bounds;
 use search::Entry;
 use search::Way;
 
 mod tables;
-
-// What every cost is below.
-fn infinite() -> f64
-    ensures { λ r. ⌜ r ≡ infinity ⌝ }
-{
-    f64::from_bits(0x7ff0_0000_0000_0000)
-}
 
 // The middle entry of path t out of end entry i1.
 fn mid_at(ix: &[u8; 1024], i1: usize, t: usize) -> usize
@@ -43,44 +35,50 @@ fn last_at(p: usize, nx: &[u8; 1024], i1: usize, t: usize) -> usize
 }
 
 // ---- the entries' fields as flat rows
-fn end_values(e: [Entry; 128]) -> [f64; 128]
-    ensures { λ r. ⌜ Values 128 e r ⌝ }
+// The values v of the entries of the three sections, and whether each is exact, x.
+struct Fields {
+    v1: [f64; 128],
+    v2: [f64; 256],
+    v3: [f64; 128],
+    x1: [bool; 128],
+    x2: [bool; 256],
+    x3: [bool; 128],
+}
+
+// A turn for each place of an end: there are two middle entries to it.
+fn fields_of(e1: [Entry; 128], e2: [Entry; 256], e3: [Entry; 128]) -> Fields
+    ensures { λ r. ⌜ FieldsOf (record { e1 = e1; e2 = e2; e3 = e3 }) r ⌝ }
 {
-    let mut v = [0.0f64; 128];
+    let mut v1 = [0.0f64; 128];
+    let mut v2 = [0.0f64; 256];
+    let mut v3 = [0.0f64; 128];
+    let mut x1 = [false; 128];
+    let mut x2 = [false; 256];
+    let mut x3 = [false; 128];
     for i in 0..128usize {
-        v[i] = e[i].value;
+        let m = 2 * i;
+        let n = m + 1;
+        let first = e1[i];
+        let even = e2[m];
+        let odd = e2[n];
+        let last = e3[i];
+        v1[i] = first.value;
+        v2[m] = even.value;
+        v2[n] = odd.value;
+        v3[i] = last.value;
+        x1[i] = first.exact;
+        x2[m] = even.exact;
+        x2[n] = odd.exact;
+        x3[i] = last.exact;
     }
-    v
-}
-
-fn mid_values(e: [Entry; 256]) -> [f64; 256]
-    ensures { λ r. ⌜ Values 256 e r ⌝ }
-{
-    let mut v = [0.0f64; 256];
-    for i in 0..256usize {
-        v[i] = e[i].value;
+    Fields {
+        v1,
+        v2,
+        v3,
+        x1,
+        x2,
+        x3,
     }
-    v
-}
-
-fn end_exacts(e: [Entry; 128]) -> [bool; 128]
-    ensures { λ r. ⌜ Exacts 128 e r ⌝ }
-{
-    let mut x = [false; 128];
-    for i in 0..128usize {
-        x[i] = e[i].exact;
-    }
-    x
-}
-
-fn mid_exacts(e: [Entry; 256]) -> [bool; 256]
-    ensures { λ r. ⌜ Exacts 256 e r ⌝ }
-{
-    let mut x = [false; 256];
-    for i in 0..256usize {
-        x[i] = e[i].exact;
-    }
-    x
 }
 
 // ---- the join
@@ -125,7 +123,8 @@ fn entered(
 ) -> Way
     requires { ⌜ (p < 2) × (i1 < 128) ⌝ }
     requires { ⌜ (now ix ≡ branchEntries) × (now nx ≡ nexts) ⌝ }
-    ensures { λ r. ⌜ ((s : Sides) → ValuesOf s (now (v1 .entry)) (now (v2 .entry)) (now (v3 .entry)) → r ≡ cond (le (best .cost) (entAt (s .e1) i1 .value)) best (rowTo tables p s i1 best 32)) ⌝ }
+    ensures { λ r. ⌜ ((s : Sides) → ValuesOf s (now (v1 .entry)) (now (v2 .entry)) (now (v3 .entry))
+        → r ≡ cond (le (best .cost) (entAt (s .e1) i1 .value)) best (rowTo tables p s i1 best 32)) ⌝ }
 {
     if v1[i1] >= best.cost {
         best
@@ -148,7 +147,7 @@ fn best_way(
     ensures { λ r. ⌜ ((s : Sides) → ValuesOf s (now (v1 .entry)) (now (v2 .entry)) (now (v3 .entry)) → r ≡ joinTo tables p s 128) ⌝ }
 {
     let mut best = Way {
-        cost: infinite(),
+        cost: search::infinite(),
         i1: 0,
         i2: 0,
         i3: 0,
@@ -165,9 +164,10 @@ pub fn join(p: u32, e1: [Entry; 128], e2: [Entry; 256], e3: [Entry; 128]) -> Way
 {
     let ix = tables::branch_entries();
     let nx = tables::next_states();
-    let v1 = end_values(e1);
-    let v2 = mid_values(e2);
-    let v3 = end_values(e3);
+    let f = fields_of(e1, e2, e3);
+    let v1 = f.v1;
+    let v2 = f.v2;
+    let v3 = f.v3;
     best_way((p % 2) as usize, &ix, &nx, &v1, &v2, &v3)
 }
 
@@ -201,9 +201,10 @@ fn bounds_over(
 ) -> Bounds
     requires { ⌜ p < 2 ⌝ }
     requires { ⌜ (now ix ≡ branchEntries) × (now nx ≡ nexts) ⌝ }
-    ensures { λ r. ⌜ ((s : Sides) → ValuesOf s (now (v1 .entry)) (now (v2 .entry)) (now (v3 .entry)) → ExactsOf s (now (x1 .entry)) (now (x2 .entry)) (now (x3 .entry)) → r ≡ boundsTo tables p s u0 4096) ⌝ }
+    ensures { λ r. ⌜ ((s : Sides) → ValuesOf s (now (v1 .entry)) (now (v2 .entry)) (now (v3 .entry))
+        → ExactsOf s (now (x1 .entry)) (now (x2 .entry)) (now (x3 .entry)) → r ≡ boundsTo tables p s u0 4096) ⌝ }
 {
-    let top = infinite();
+    let top = search::infinite();
     let mut u = u0;
     let mut b1 = [top; 128];
     let mut b2 = [top; 256];
@@ -227,11 +228,12 @@ pub fn bounds(p: u32, e1: [Entry; 128], e2: [Entry; 256], e3: [Entry; 128], u: f
 {
     let ix = tables::branch_entries();
     let nx = tables::next_states();
-    let v1 = end_values(e1);
-    let v2 = mid_values(e2);
-    let v3 = end_values(e3);
-    let x1 = end_exacts(e1);
-    let x2 = mid_exacts(e2);
-    let x3 = end_exacts(e3);
+    let f = fields_of(e1, e2, e3);
+    let v1 = f.v1;
+    let v2 = f.v2;
+    let v3 = f.v3;
+    let x1 = f.x1;
+    let x2 = f.x2;
+    let x3 = f.x3;
     bounds_over((p % 2) as usize, &ix, &nx, &v1, &v2, &v3, &x1, &x2, &x3, u)
 }

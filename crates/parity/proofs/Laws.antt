@@ -1,6 +1,6 @@
 -- The pass over the resolved entries of crate search is the definition, and it looks at no other resolved entries than those of the three lists.
 -- Assumes nothing.
-use mathlib.Core.Path.{_≡_, refl, _∙_, sym, ap, ap₂}
+use mathlib.Core.Path.{_≡_, refl, _∙_, sym, ap}
 use mathlib.Core.Bool.{Bool, true, false, cond, _&&_}
 use mathlib.Core.List.{List}
 use Prim.Native.Nat.{ℕ, _<_}
@@ -12,14 +12,15 @@ use Rattle.laws.specs.Tests.{cond-same}
 use Rattle.search.specs.declared.Entry.{Entry}
 use Rattle.search.specs.declared.Way.{Way}
 use Rattle.search.specs.declared.Bounds.{Bounds}
-use Rattle.search.specs.declared.Winner.{Winner}
 use Rattle.search.specs.Tables.{tables}
 use Rattle.search.specs.Entries.{Rule}
 use Rattle.search.specs.Join.{Sides, entAt, noEntry, join, allExact}
 use Rattle.search.specs.Parity.{Targets, Seed, solved1, solved2, solved3, starts, lower, seeded, seedBy, seedTo, boundsTo, closed, closing, parity}
-use Rattle.join.proofs.Ranges.{InRange, in-join}
+use Rattle.join.proofs.Ranges.{in-join}
+use Rattle.resolve.specs.Flat.{closedWith}
 use Rattle.parity.specs.declared.Head.{Head}
-use Rattle.parity.specs.Inner.{firstStart, midStarts, lastStart, headBy, headOf, Kept, Resolved, onceBy, againBy, seedsBy, closedBy, leftBy, bestOf, passOf}
+use Rattle.parity.specs.Inner.{firstStart, midStarts, lastStart, headBy, headOf, Kept, Resolved}
+use Rattle.parity.specs.Inner.{onceBy, againBy, seedsBy, closedBy, leftBy, bestOf, passOf}
 
 -- ---- which resolved entries are looked at
 abbrev InHead : Head → Type 0
@@ -48,10 +49,9 @@ module _ (r1 r2 r3 s1 s2 s3 : Resolved) (q1 : Agree 128 r1 s1) (q2 : Agree 256 r
       ∙ once-eq x (cond (h .done) h (headOf p (x .sides))) (in-cond (h .done) h (headOf p (x .sides)) (in-head p (k .sides)) (in-head p (x .sides)))
 
   left-eq : (n : ℕ) (e : List Entry) (b : List Float) (u : Float) (r s : Resolved) → Agree n r s
-      → tab (λ (i : ℕ). closed (entAt e i) (lt (getD b i nan) u) (r i)) n ≡ tab (λ (i : ℕ). closed (entAt e i) (lt (getD b i nan) u) (s i)) n
+      → tab (closedWith e b u r) n ≡ tab (closedWith e b u s) n
   left-eq n e b u r s q =
-      tab-eq Entry noEntry (λ (i : ℕ). closed (entAt e i) (lt (getD b i nan) u) (r i)) (λ (i : ℕ). closed (entAt e i) (lt (getD b i nan) u) (s i)) n
-      (λ i l. ap (closed (entAt e i) (lt (getD b i nan) u)) (q i l))
+      tab-eq Entry noEntry (closedWith e b u r) (closedWith e b u s) n (λ i l. ap (closed (entAt e i) (lt (getD b i nan) u)) (q i l))
 
   closed-eq : (s : Sides) (b : Bounds) → closedBy r1 r2 r3 s b ≡ closedBy s1 s2 s3 s b
   unfolding closedBy
@@ -139,9 +139,12 @@ module _ (rule : Rule) (t : Targets) (p : ℕ) where
       ∙ (once-is (exactly s w) w ∙ (ap keptOf (seed-exact (exactly s w) w e)
       ∙ (ap (λ (u : Float). record { sides = s .sides; u = u }) (lower-twice (s .u) (w .cost)) ∙ sym (ap keptOf first))))
 
+  abbrev next : Seed → Seed
+  next s = seedBy tables rule t p s (join tables p (s .sides))
+
   second-is : (s : Seed) (w : Way) (b : Bool) → allExact (s .sides) w ≡ b
       → onceBy r1 r2 r3 (keptOf (seedBy tables rule t p s w)) (cond b (headBy (s .sides) w) (headOf p (seedBy tables rule t p s w .sides)))
-      ≡ keptOf (cond b (seedBy tables rule t p s w) (seedBy tables rule t p (seedBy tables rule t p s w) (join tables p (seedBy tables rule t p s w .sides))))
+      ≡ keptOf (cond b (seedBy tables rule t p s w) (next (seedBy tables rule t p s w)))
   unfolding headOf
   second-is s w true e = again-is s w e
   second-is s w false e = once-is (seedBy tables rule t p s w) (join tables p (seedBy tables rule t p s w .sides))
@@ -155,8 +158,7 @@ module _ (rule : Rule) (t : Targets) (p : ℕ) where
       let one : seedTo tables rule t p s 1 ≡ a = ap (λ (b : Bool). cond b s a) e in
       ap (againBy r1 r2 r3 p (headBy (s .sides) w)) (once-is s w)
       ∙ (second-is s w (allExact (s .sides) w) refl
-      ∙ (ap (λ (b : Bool). keptOf (cond b a (seedBy tables rule t p a (join tables p (a .sides))))) (sym (done-is s w))
-      ∙ sym (ap (λ (x : Seed). keptOf (cond (x .done) x (seedBy tables rule t p x (join tables p (x .sides))))) one)))
+      ∙ (ap (λ (b : Bool). keptOf (cond b a (next a))) (sym (done-is s w)) ∙ sym (ap (λ (x : Seed). keptOf (cond (x .done) x (next x))) one)))
 
   pub pass-is : (u0 : Float)
       → passOf r1 r2 r3 p (record { sides = record { e1 = firstStart (t .t1) p; e2 = midStarts (t .t2) p; e3 = lastStart (t .t3) p }; u = u0 })

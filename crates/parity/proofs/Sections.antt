@@ -1,9 +1,9 @@
 -- One section: its rows, its fallbacks and its entries as they start, and what the flat search over its rows resolves, are those of crate search.
 -- Assumes nothing.
-use mathlib.Core.Path.{_≡_, refl, _∙_, sym, ap, ap₂}
+use mathlib.Core.Path.{_≡_, refl, _∙_, ap}
 use mathlib.Core.Bool.{Bool, true, false, cond}
 use mathlib.Core.List.{List}
-use Prim.Native.Nat.{ℕ, _<_, _≤_, _/_, _%_}
+use Prim.Native.Nat.{ℕ, _≤_, _/_, _%_}
 use native.Mathlib.Omega.{arith}
 use borrow.Author.Tests.{ltb-true}
 use lib.Dec.{ltb}
@@ -15,8 +15,7 @@ use Rattle.search.specs.declared.Entry.{Entry}
 use Rattle.search.specs.declared.Closed.{Closed}
 use Rattle.search.specs.declared.Winner.{Winner}
 use Rattle.search.specs.Tables.{tables, middleSets}
-use Rattle.search.specs.Entries.{Rule, endResolve, midResolve, endStart, midStart}
-use Rattle.search.specs.Join.{Sides}
+use Rattle.search.specs.Entries.{endResolve, endStart}
 use Rattle.search.specs.Parity.{Targets, solved1, solved2, solved3, parity}
 use Rattle.search.specs.Block.{ruleOf}
 use Rattle.coord.specs.declared.Rows.{Rows}
@@ -50,7 +49,8 @@ module _ (ts : List Float) (p : ℕ) {r : Rows} (q : r ≡ rowsOf (tableOf ts p)
       → Agree 128 (endWith tables (searchIn r) bytes fall (ruleOf n .ends)) (λ (i : ℕ). endResolve tables (ruleOf n) ts kind p (i / 64) (i % 64))
   unfolding rowsOf
   end-agrees n kind qb qf i l =
-      rw (q, qb, qf) (end-with (ruleOf n) ts p (searchIn (rowsOf (tableOf ts p))) (λ c w b m h. solve-flat ts p c w b m h) kind i (omega (arith, least n 7)) l)
+      rw (q, qb, qf)
+      (end-with (ruleOf n) ts p (searchIn (rowsOf (tableOf ts p))) (λ c w b m h. solve-flat ts p c w b m h) kind i (omega (arith, least n 7)) l)
 
   pub mid-agrees : (n : ℕ) {sets : List ℕ} → sets ≡ middleSets
       → Agree 256 (midWith tables (searchIn r) sets (ruleOf n .mids)) (solved2 tables (ruleOf n) ts p)
@@ -59,16 +59,20 @@ module _ (ts : List Float) (p : ℕ) {r : Rows} (q : r ≡ rowsOf (tableOf ts p)
       rw (q, qb) (mid-with (ruleOf n) ts p (searchIn (rowsOf (tableOf ts p))) (λ c w b m h. solve-flat ts p c w b m h) middleSets i (least n 8))
 
   pub end-starts : (kind : ℕ) {bytes : List ℕ} {fall e : List Entry} → bytes ≡ bytesOf kind → fall ≡ fallbacksOf ts kind p
-      → e ≡ tab (λ (i : ℕ). startWith (pairsIn r bytes (tables .class0) (tables .class1)) bytes fall i) 128
+      → e ≡ tab (startWith (pairsIn r bytes (tables .class0) (tables .class1)) bytes fall) 128
       → e ≡ tab (λ (i : ℕ). endStart tables ts kind p (i / 64) (i % 64)) 128
   unfolding rowsOf
-  end-starts kind qb qf h = h ∙ rw (q, qb, qf) (ends-flat ts p kind (pairsIn (rowsOf (tableOf ts p)) (bytesOf kind) (tables .class0) (tables .class1)) (bases ts p (tables .class0) (tables .class1) (bytesOf kind)))
+  end-starts kind qb qf h =
+      let q2 : List Pair = pairsIn (rowsOf (tableOf ts p)) (bytesOf kind) (tables .class0) (tables .class1) in
+      h ∙ rw (q, qb, qf) (ends-flat ts p kind q2 (bases ts p (tables .class0) (tables .class1) (bytesOf kind)))
 
   pub mid-starts : {sets : List ℕ} {e : List Entry} → sets ≡ middleSets
-      → e ≡ tab (λ (i : ℕ). midStartWith (pairsIn r sets (tables .mixed) (tables .mixed)) sets i) 256
+      → e ≡ tab (midStartWith (pairsIn r sets (tables .mixed) (tables .mixed)) sets) 256
       → e ≡ midStarts ts p
   unfolding rowsOf midStarts
-  mid-starts qb h = h ∙ rw (q, qb) (mids-flat ts p middleSets (pairsIn (rowsOf (tableOf ts p)) middleSets (tables .mixed) (tables .mixed)) (bases ts p (tables .mixed) (tables .mixed) middleSets))
+  mid-starts qb h =
+      let q2 : List Pair = pairsIn (rowsOf (tableOf ts p)) middleSets (tables .mixed) (tables .mixed) in
+      h ∙ rw (q, qb) (mids-flat ts p middleSets q2 (bases ts p (tables .mixed) (tables .mixed) middleSets))
 
 -- ---- one section after the other
 abbrev pub keptOf : List Entry → List Entry → List Entry → Float → Kept
@@ -77,7 +81,7 @@ keptOf e1 e2 e3 u = record { sides = record { e1 = e1; e2 = e2; e3 = e3 }; u = u
 module _ (n p : ℕ) (u : Float) where
   pub with-last : (r1 r2 : Resolved) (e1 e2 : List Entry) (ts : List Float) {r : Rows} {suf : List ℕ} {fall e : List Entry} {w : Winner}
       → r ≡ rowsOf (tableOf ts p) → suf ≡ suffixes → fall ≡ fallbacksOf ts 1 p
-      → e ≡ tab (λ (i : ℕ). startWith (pairsIn r suf (tables .class0) (tables .class1)) suf fall i) 128
+      → e ≡ tab (startWith (pairsIn r suf (tables .class0) (tables .class1)) suf fall) 128
       → w ≡ passOf r1 r2 (endWith tables (searchIn r) suffixes fall (ruleOf n .ends)) p (keptOf e1 e2 e u)
       → w ≡ passOf r1 r2 (solved3 tables (ruleOf n) ts p) p (keptOf e1 e2 (lastStart ts p) u)
   unfolding lastStart
@@ -88,7 +92,7 @@ module _ (n p : ℕ) (u : Float) where
 
   pub with-middle : (r1 r3 : Resolved) (e1 e3 : List Entry) (ts : List Float) {r : Rows} {sets : List ℕ} {e : List Entry} {w : Winner}
       → r ≡ rowsOf (tableOf ts p) → sets ≡ middleSets
-      → e ≡ tab (λ (i : ℕ). midStartWith (pairsIn r sets (tables .mixed) (tables .mixed)) sets i) 256
+      → e ≡ tab (midStartWith (pairsIn r sets (tables .mixed) (tables .mixed)) sets) 256
       → w ≡ passOf r1 (midWith tables (searchIn r) middleSets (ruleOf n .mids)) r3 p (keptOf e1 e e3 u)
       → w ≡ passOf r1 (solved2 tables (ruleOf n) ts p) r3 p (keptOf e1 (midStarts ts p) e3 u)
   with-middle r1 r3 e1 e3 ts {r} {sets} {e} q qs he hw =
@@ -98,8 +102,9 @@ module _ (n p : ℕ) (u : Float) where
 
   pub with-first : (t : Targets) {r : Rows} {pre : List ℕ} {fall e : List Entry} {w : Winner}
       → r ≡ rowsOf (tableOf (t .t1) p) → pre ≡ prefixes → fall ≡ fallbacksOf (t .t1) 0 p
-      → e ≡ tab (λ (i : ℕ). startWith (pairsIn r pre (tables .class0) (tables .class1)) pre fall i) 128
-      → w ≡ passOf (endWith tables (searchIn r) prefixes fall (ruleOf n .ends)) (solved2 tables (ruleOf n) (t .t2) p) (solved3 tables (ruleOf n) (t .t3) p) p (keptOf e (midStarts (t .t2) p) (lastStart (t .t3) p) u)
+      → e ≡ tab (startWith (pairsIn r pre (tables .class0) (tables .class1)) pre fall) 128
+      → w ≡ passOf (endWith tables (searchIn r) prefixes fall (ruleOf n .ends))
+      (solved2 tables (ruleOf n) (t .t2) p) (solved3 tables (ruleOf n) (t .t3) p) p (keptOf e (midStarts (t .t2) p) (lastStart (t .t3) p) u)
       → w ≡ parity tables (ruleOf n) t p u
   unfolding firstStart
   with-first t {r} {pre} {fall} {e} q qs qf he hw =

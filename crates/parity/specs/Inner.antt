@@ -1,10 +1,10 @@
 -- One parity over any resolved entries: r1, r2 and r3 give the resolved entry i of each section. Laws proves that with those of crate search it is
 -- the definition. Definitions only.
-use mathlib.Core.Bool.{Bool, cond}
+use mathlib.Core.Bool.{cond}
 use mathlib.Core.List.{List}
 use Prim.Native.Nat.{ℕ, _/_, _%_}
 use lib.ListN.{getD}
-use lib.Ieee.{Float, nan, lt}
+use lib.Ieee.{Float}
 use Rattle.laws.specs.Lists.{tab}
 use Rattle.search.specs.declared.Entry.{Entry}
 use Rattle.search.specs.declared.Way.{Way}
@@ -12,8 +12,9 @@ use Rattle.search.specs.declared.Bounds.{Bounds}
 use Rattle.search.specs.declared.Winner.{Winner}
 use Rattle.search.specs.Tables.{tables}
 use Rattle.search.specs.Entries.{endStart, midStart}
-use Rattle.search.specs.Join.{Sides, entAt, join, allExact}
-use Rattle.search.specs.Parity.{fixed, lower, boundsTo, closed, winnerOf}
+use Rattle.search.specs.Join.{Sides, join, allExact}
+use Rattle.search.specs.Parity.{fixed, lower, boundsTo, winnerOf}
+use Rattle.resolve.specs.Flat.{closedWith}
 use Rattle.parity.specs.declared.Head.{Head}
 
 -- ---- the entries of a section as they start
@@ -65,9 +66,9 @@ seedsBy r1 r2 r3 p k = againBy r1 r2 r3 p (headOf p (k .sides)) (onceBy r1 r2 r3
 unfoldable pub closedBy : Resolved → Resolved → Resolved → Sides → Bounds → Sides
 closedBy r1 r2 r3 s b =
     record {
-      e1 = tab (λ (i : ℕ). closed (entAt (s .e1) i) (lt (getD (b .b1) i nan) (b .u)) (r1 i)) 128;
-      e2 = tab (λ (i : ℕ). closed (entAt (s .e2) i) (lt (getD (b .b2) i nan) (b .u)) (r2 i)) 256;
-      e3 = tab (λ (i : ℕ). closed (entAt (s .e3) i) (lt (getD (b .b3) i nan) (b .u)) (r3 i)) 128;
+      e1 = tab (closedWith (s .e1) (b .b1) (b .u) r1) 128;
+      e2 = tab (closedWith (s .e2) (b .b2) (b .u) r2) 256;
+      e3 = tab (closedWith (s .e3) (b .b3) (b .u) r3) 128;
     }
 
 abbrev pub leftBy : Resolved → Resolved → Resolved → ℕ → Kept → Sides

@@ -2,10 +2,9 @@
 // section (crate coord) are lent as six arrays: its regrets g, distances d, weights w, ranks k, the parities o of its roundings, and whether each
 // target lies above its rounding, v.
 ghost use mathlib.Core.Path.{_≡_};
-ghost use mathlib.Core.Bool.{cond, false};
+ghost use mathlib.Core.Bool.{cond};
 ghost use Prim.Native.Nat.{ℕ, _%_};
 ghost use lib.ListN.{getD};
-ghost use lib.Ieee.{inf};
 ghost use Rattle.laws.specs.Lists.{tab};
 ghost use Rattle.trellis.specs.Tables.{prefixes, suffixes};
 ghost use Rattle.search.specs.Tables.{tables, middleSets};
@@ -14,8 +13,7 @@ ghost use Rattle.search.specs.Parity as def;
 ghost use Rattle.search.specs.Block.{ruleOf};
 ghost use Rattle.solve.specs.Flat.{solveIn, pairIn};
 ghost use Rattle.resolve.specs.Flat.{endWith, midWith, startWith, midStartWith};
-ghost use Rattle.parity.specs.Inner.{headOf, passOf, firstStart, midStarts, lastStart};
-use search::Closed;
+ghost use Rattle.parity.specs.Inner.{headOf, passOf, midStarts, lastStart};
 use search::Entry;
 use search::Winner;
 
@@ -52,7 +50,10 @@ fn end_starts(
     bytes: &[u8; 128],
     fall: [Entry; 128],
 ) -> [Entry; 128]
-    ensures { λ r. ⌜ r ≡ tab (λ (i : ℕ). startWith (tab (λ (j : ℕ). pairIn (now (g .entry)) (now (d .entry)) (now (w .entry)) (now (k .entry)) (now (o .entry)) (now (v .entry)) (getD (now (bytes .entry)) j 0) (tables .class0) (tables .class1)) 128) (now (bytes .entry)) fall i) 128 ⌝ }
+    ensures { λ r. ⌜ r ≡ tab (startWith
+        (tab (λ (j : ℕ). pairIn (now (g .entry)) (now (d .entry)) (now (w .entry)) (now (k .entry)) (now (o .entry)) (now (v .entry))
+        (getD (now (bytes .entry)) j 0) (tables .class0) (tables .class1)) 128)
+        (now (bytes .entry)) fall) 128 ⌝ }
 {
     let b0 = resolve::class_bound(0);
     let b1 = resolve::class_bound(1);
@@ -69,7 +70,10 @@ fn mid_starts(
     v: &[bool; 128],
     sets: &[u8; 128],
 ) -> [Entry; 256]
-    ensures { λ r. ⌜ r ≡ tab (λ (i : ℕ). midStartWith (tab (λ (j : ℕ). pairIn (now (g .entry)) (now (d .entry)) (now (w .entry)) (now (k .entry)) (now (o .entry)) (now (v .entry)) (getD (now (sets .entry)) j 0) (tables .mixed) (tables .mixed)) 128) (now (sets .entry)) i) 256 ⌝ }
+    ensures { λ r. ⌜ r ≡ tab (midStartWith
+        (tab (λ (j : ℕ). pairIn (now (g .entry)) (now (d .entry)) (now (w .entry)) (now (k .entry)) (now (o .entry)) (now (v .entry))
+        (getD (now (sets .entry)) j 0) (tables .mixed) (tables .mixed)) 128)
+        (now (sets .entry))) 256 ⌝ }
 {
     let b = resolve::mixed_bound();
     let q = solve::pairs(g, d, w, k, o, v, sets, b, b);
@@ -175,7 +179,13 @@ fn pass(
     u0: f64,
     setting: u32,
 ) -> Winner
-    ensures { λ r. ⌜ r ≡ passOf (endWith tables (solveIn (now (g1 .entry)) (now (d1 .entry)) (now (w1 .entry)) (now (k1 .entry)) (now (o1 .entry)) (now (v1 .entry))) prefixes fall1 (ruleOf setting .ends)) (midWith tables (solveIn (now (g2 .entry)) (now (d2 .entry)) (now (w2 .entry)) (now (k2 .entry)) (now (o2 .entry)) (now (v2 .entry))) middleSets (ruleOf setting .mids)) (endWith tables (solveIn (now (g3 .entry)) (now (d3 .entry)) (now (w3 .entry)) (now (k3 .entry)) (now (o3 .entry)) (now (v3 .entry))) suffixes fall3 (ruleOf setting .ends)) (p % 2) (record { sides = record { e1 = e1; e2 = e2; e3 = e3 }; u = u0 }) ⌝ }
+    ensures { λ r. ⌜ r ≡ passOf
+        (endWith tables (solveIn (now (g1 .entry)) (now (d1 .entry)) (now (w1 .entry)) (now (k1 .entry)) (now (o1 .entry)) (now (v1 .entry)))
+        prefixes fall1 (ruleOf setting .ends))
+        (midWith tables (solveIn (now (g2 .entry)) (now (d2 .entry)) (now (w2 .entry)) (now (k2 .entry)) (now (o2 .entry)) (now (v2 .entry)))
+        middleSets (ruleOf setting .mids))
+        (endWith tables (solveIn (now (g3 .entry)) (now (d3 .entry)) (now (w3 .entry)) (now (k3 .entry)) (now (o3 .entry)) (now (v3 .entry)))
+        suffixes fall3 (ruleOf setting .ends)) (p % 2) (record { sides = record { e1 = e1; e2 = e2; e3 = e3 }; u = u0 }) ⌝ }
 {
     let pre = resolve::prefixes();
     let sets = resolve::middle_sets();
@@ -223,7 +233,13 @@ fn last(
     u0: f64,
     setting: u32,
 ) -> Winner
-    ensures { λ r. ⌜ r ≡ passOf (endWith tables (solveIn (now (g1 .entry)) (now (d1 .entry)) (now (w1 .entry)) (now (k1 .entry)) (now (o1 .entry)) (now (v1 .entry))) prefixes fall1 (ruleOf setting .ends)) (midWith tables (solveIn (now (g2 .entry)) (now (d2 .entry)) (now (w2 .entry)) (now (k2 .entry)) (now (o2 .entry)) (now (v2 .entry))) middleSets (ruleOf setting .mids)) (def.solved3 tables (ruleOf setting) t3 (p % 2)) (p % 2) (record { sides = record { e1 = e1; e2 = e2; e3 = lastStart t3 (p % 2) }; u = u0 }) ⌝ }
+    ensures { λ r. ⌜ r ≡ passOf
+        (endWith tables (solveIn (now (g1 .entry)) (now (d1 .entry)) (now (w1 .entry)) (now (k1 .entry)) (now (o1 .entry)) (now (v1 .entry)))
+        prefixes fall1 (ruleOf setting .ends))
+        (midWith tables (solveIn (now (g2 .entry)) (now (d2 .entry)) (now (w2 .entry)) (now (k2 .entry)) (now (o2 .entry)) (now (v2 .entry)))
+        middleSets (ruleOf setting .mids))
+        (def.solved3 tables (ruleOf setting) t3 (p % 2)) (p % 2)
+        (record { sides = record { e1 = e1; e2 = e2; e3 = lastStart t3 (p % 2) }; u = u0 }) ⌝ }
 {
     let r = coord::rows_of(t3, p);
     let g3 = r.regret;
@@ -281,7 +297,11 @@ fn middle(
     u0: f64,
     setting: u32,
 ) -> Winner
-    ensures { λ r. ⌜ r ≡ passOf (endWith tables (solveIn (now (g1 .entry)) (now (d1 .entry)) (now (w1 .entry)) (now (k1 .entry)) (now (o1 .entry)) (now (v1 .entry))) prefixes fall1 (ruleOf setting .ends)) (def.solved2 tables (ruleOf setting) t2 (p % 2)) (def.solved3 tables (ruleOf setting) t3 (p % 2)) (p % 2) (record { sides = record { e1 = e1; e2 = midStarts t2 (p % 2); e3 = lastStart t3 (p % 2) }; u = u0 }) ⌝ }
+    ensures { λ r. ⌜ r ≡ passOf
+        (endWith tables (solveIn (now (g1 .entry)) (now (d1 .entry)) (now (w1 .entry)) (now (k1 .entry)) (now (o1 .entry)) (now (v1 .entry)))
+        prefixes fall1 (ruleOf setting .ends))
+        (def.solved2 tables (ruleOf setting) t2 (p % 2)) (def.solved3 tables (ruleOf setting) t3 (p % 2)) (p % 2)
+        (record { sides = record { e1 = e1; e2 = midStarts t2 (p % 2); e3 = lastStart t3 (p % 2) }; u = u0 }) ⌝ }
 {
     let r = coord::rows_of(t2, p);
     let g2 = r.regret;
@@ -333,25 +353,19 @@ pub fn parity(p: u32, t1: [f64; 8], t2: [f64; 8], t3: [f64; 8], u0: f64, setting
 }
 
 // ---- both parities
-fn infinite() -> f64
-    ensures { λ r. ⌜ r ≡ inf false ⌝ }
-{
-    f64::from_bits(0x7ff0_0000_0000_0000)
-}
-
 // No winner yet.
 fn nobody() -> Winner
     ensures { λ r. ⌜ r ≡ def.nobody ⌝ }
 {
     let none = Entry {
-        value: infinite(),
+        value: search::infinite(),
         exact: true,
         byte: 0,
         key: 0,
     };
     Winner {
         found: false,
-        cost: infinite(),
+        cost: search::infinite(),
         p: 0,
         i1: 0,
         i2: 0,
@@ -365,7 +379,7 @@ fn nobody() -> Winner
 fn cost_of(w: Winner) -> f64
     ensures { λ r. ⌜ r ≡ def.costOf w ⌝ }
 {
-    if w.found { w.cost } else { infinite() }
+    if w.found { w.cost } else { search::infinite() }
 }
 
 // A later parity must be strictly cheaper.

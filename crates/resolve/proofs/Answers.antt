@@ -19,7 +19,7 @@ use Rattle.search.specs.Solve.{infinity, foundOf}
 use Rattle.search.specs.Tables.{tables, classOf, fallbackBytes, fallbackKeys}
 use Rattle.search.specs.Entries.{infeasible, fallback, better, midOf, settle}
 use Rattle.search.specs.Join.{entAt, noEntry}
-use Rattle.search.specs.Parity.{fixed}
+use Rattle.search.specs.Parity.{fixed, closed}
 use Rattle.solve.specs.Flat.{solveIn}
 use Rattle.resolve.specs.Flat.{Search, betterBy, midBy, endOver, midOver, fallbackIn, loweredBy, startOver}
 use Rattle.resolve.specs.Inner.{pointsFrom}
@@ -106,12 +106,24 @@ module _ (sol : Search) (c d n : ℕ) {b : Closed} {f : Found} (hb : b ≡ table
       let m = was-unmet q in
       let m8 = ap (λ (s : Best). s .met) (sym same) ∙ m in
       hx ∙ sym (ap (λ (z : Bool). cond z (midOf (sol c d (tables .mixed) n) c) (midOf (sol c d (tables .mixed) 8) c)) m
-      ∙ ap (λ (z : Bool). cond z (record { value = sol c d (tables .mixed) 8 .d; exact = true; byte = c; key = sol c d (tables .mixed) 8 .key }) infeasible) m8)
+      ∙ ap
+      (λ (z : Bool). cond z (record { value = sol c d (tables .mixed) 8 .d; exact = true; byte = c; key = sol c d (tables .mixed) 8 .key })
+      infeasible) m8)
 
 pub solve-eight : (regret dist : List Float) (weight rank odd : List ℕ) (up : List Bool) (c want : ℕ) (bound : Closed) (n : ℕ) → 8 ≤ n
     → solveIn regret dist weight rank odd up c want bound n ≡ solveIn regret dist weight rank odd up c want bound 8
 unfolding solveIn
 solve-eight regret dist weight rank odd up c want bound n h = let q : min n 8 ≡ 8 = omega arith in rw q
+
+-- ---- what a bound closes: an exact entry stays; another is resolved where its best path is under u, and dropped where not
+pub kept : (e new : Entry) (under : Bool) → e .exact ≡ true → e ≡ closed e under new
+kept e new under h = sym (ap (λ (x : Bool). cond x e (cond under new infeasible)) h)
+
+pub reopened : (e new : Entry) {under : Bool} {x : Entry} → e .exact ≡ false → under ≡ true → x ≡ new → x ≡ closed e under new
+reopened e new h q hx = hx ∙ sym (ap₂ (λ (a b : Bool). cond a e (cond b new infeasible)) h q)
+
+pub dropped : (e new : Entry) {under : Bool} {x : Entry} → e .exact ≡ false → under ≡ false → x ≡ infeasible → x ≡ closed e under new
+dropped e new h q hx = hx ∙ sym (ap₂ (λ (a b : Bool). cond a e (cond b new infeasible)) h q)
 
 -- ---- one entry of a list: a place past the end changes nothing
 pub past : (e : List Entry) (i : ℕ) (new : Entry) → length e ≤ i → e ≡ fixed e i new

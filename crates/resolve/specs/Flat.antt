@@ -16,6 +16,7 @@ use Rattle.search.specs.Solve.{infinity}
 use Rattle.search.specs.Tables.{Tables, classOf}
 use Rattle.search.specs.Entries.{distTo, infeasible, better, midOf, withBase, settle}
 use Rattle.search.specs.Join.{entAt}
+use Rattle.search.specs.Parity.{closed}
 use Rattle.solve.specs.declared.Pair.{Pair}
 
 abbrev pub Search : Type 0
@@ -46,6 +47,10 @@ midOver g sol c d n = cond (sol c d (g .mixed) n .met) (midOf (sol c d (g .mixed
 
 abbrev pub midWith : Tables → Search → List ℕ → ℕ → ℕ → Entry
 midWith g sol sets n i = midOver g sol (getD sets (i / 2) 0) (i % 2) n
+
+-- entry i of those that a bound closes: exact, resolved where its best path is under u, or dropped
+abbrev pub closedWith : List Entry → List Float → Float → (ℕ → Entry) → ℕ → Entry
+closedWith e b u new i = closed (entAt e i) (lt (getD b i nan) u) (new i)
 
 -- ---- the fallbacks: place i of their bytes, packed rows and points
 abbrev pub fallbackIn : List ℕ → List ℕ → List ℤ → List Float → ℕ → Entry

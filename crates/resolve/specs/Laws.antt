@@ -20,13 +20,15 @@ use Rattle.search.specs.Record.{row}
 use Rattle.search.specs.Base.{baseNow, baseBest}
 use Rattle.search.specs.Solve.{solve, infinity, foundOf}
 use Rattle.search.specs.Tables.{tables, classOf, endByte, fallbackAt, fallbackBytes, fallbackKeys}
-use Rattle.search.specs.Entries.{Rule, sectionAt, distTo, infeasible, fallback, better, endResolve, midOf, midResolve, Start, settle, endStart, midStart}
+use Rattle.search.specs.Entries.{Rule, sectionAt, distTo, infeasible, fallback, better, endResolve, midOf, midResolve}
+use Rattle.search.specs.Entries.{Start, settle, endStart, midStart}
 use Rattle.search.specs.Join.{noEntry}
 use Rattle.coord.specs.Rows.{tableOf, regretsOf, distsOf, weightsOf, ranksOf, oddsOf, upsOf}
 use Rattle.solve.specs.declared.Pair.{Pair}
 use Rattle.solve.specs.Flat.{pairIn}
 use Rattle.solve.specs.Laws.{pair-flat}
-use Rattle.resolve.specs.Flat.{Search, betterBy, midBy, endOver, endWith, midOver, midWith, fallbackIn, noBest, pairAt, ofParity, loweredBy, startOver, startWith, baseEntry, midStartWith}
+use Rattle.resolve.specs.Flat.{Search, betterBy, midBy, endOver, endWith, midOver, midWith, fallbackIn}
+use Rattle.resolve.specs.Flat.{noBest, pairAt, ofParity, loweredBy, startOver, startWith, baseEntry, midStartWith}
 use Rattle.resolve.specs.Inner.{pointsFrom, point-at}
 
 -- ---- what a search answered
@@ -61,23 +63,21 @@ keys-length : length fallbackKeys ≡ 512
 unfolding fallbackKeys
 keys-length = refl
 
+-- the points are the sections of the bytes and packed rows
+dist-at : (ts : List Float) (p n : ℕ) → n < 512 → (0 + n) / 128 % 2 ≡ p
+    → distTo (λ (j : ℕ). getD (pointsFrom 0 fallbackBytes fallbackKeys) (8 * n + j) (pos 0)) ts 8
+    ≡ distTo (sectionAt p (getD fallbackBytes n 0) (getD fallbackKeys n 0)) ts 8
+dist-at ts p n h q = dist-eq _ _ ts 8
+    (λ j l. point-at 0 fallbackBytes fallbackKeys n j (omega (arith, bytes-length)) (omega (arith, keys-length)) l
+    ∙ ap (λ (r : ℕ). sectionAt r (getD fallbackBytes n 0) (getD fallbackKeys n 0) j) q)
+
 -- place i of the 128 fallbacks of an end and a parity
 pub fallback-flat : (ts : List Float) (kind p i : ℕ) → kind < 2 → p < 2 → i < 128
     → fallbackIn fallbackBytes fallbackKeys (pointsFrom 0 fallbackBytes fallbackKeys) ts ((kind * 2 + p) * 128 + i)
     ≡ fallback tables ts kind p (i / 64) (i % 64)
-fallback-flat ts kind p i hk hp hi = rw (at, d)
-  where
-    at : (kind * 2 + p) * 128 + i ≡ fallbackAt kind p (i / 64) (i % 64)
-    at = omega arith
-
-    par : (0 + fallbackAt kind p (i / 64) (i % 64)) / 128 % 2 ≡ p
-    par = omega arith
-
-    d : distTo (λ (j : ℕ). getD (pointsFrom 0 fallbackBytes fallbackKeys) (8 * fallbackAt kind p (i / 64) (i % 64) + j) (pos 0)) ts 8
-        ≡ distTo (sectionAt p (getD fallbackBytes (fallbackAt kind p (i / 64) (i % 64)) 0) (getD fallbackKeys (fallbackAt kind p (i / 64) (i % 64)) 0)) ts 8
-    d = dist-eq _ _ ts 8
-        (λ j l. point-at 0 fallbackBytes fallbackKeys (fallbackAt kind p (i / 64) (i % 64)) j (omega (arith, bytes-length)) (omega (arith, keys-length)) l
-        ∙ ap (λ (q : ℕ). sectionAt q (getD fallbackBytes (fallbackAt kind p (i / 64) (i % 64)) 0) (getD fallbackKeys (fallbackAt kind p (i / 64) (i % 64)) 0) j) par)
+fallback-flat ts kind p i hk hp hi =
+    let q : (kind * 2 + p) * 128 + i ≡ fallbackAt kind p (i / 64) (i % 64) = omega arith in
+    rw (q, dist-at ts p (fallbackAt kind p (i / 64) (i % 64)) (omega arith) (omega arith))
 
 -- ---- as they start
 -- two bases, whose order in the three parts does not matter
@@ -133,17 +133,21 @@ module _ (rule : Rule) (ts : List Float) (p : ℕ) (sol : Search) (h : Searches 
   unfolding endWith endResolve
   end-with kind i l hi =
       let fall = tab-at Entry noEntry (λ (k : ℕ). fallback tables ts kind p (k / 64) (k % 64)) 128 i hi in
-      ap (λ (f : Entry). endOver tables sol f (i / 64) (getD (bytesOf kind) (2 * (i % 64)) 0) (getD (bytesOf kind) (2 * (i % 64) + 1) 0) (rule .ends)) fall
+      ap
+      (λ (f : Entry). endOver tables sol f (i / 64) (getD (bytesOf kind) (2 * (i % 64)) 0) (getD (bytesOf kind) (2 * (i % 64) + 1) 0) (rule .ends))
+      fall
       ∙ (ap₂ (λ (a b : ℕ). endOver tables sol (fallback tables ts kind p (i / 64) (i % 64)) (i / 64) a b (rule .ends))
       (first-byte kind (i % 64)) (byte-at kind (i % 64) 1)
-      ∙ end-over (fallback tables ts kind p (i / 64) (i % 64)) (i / 64) (endByte tables kind (i % 64) 0) (endByte tables kind (i % 64) 1) (rule .ends) l)
+      ∙ end-over (fallback tables ts kind p (i / 64) (i % 64)) (i / 64) (endByte tables kind (i % 64) 0) (endByte tables kind (i % 64) 1)
+      (rule .ends) l)
 
   pub mid-with : (sets : List ℕ) (i : ℕ) → rule .mids ≤ 8
       → midWith tables sol sets (rule .mids) i ≡ midResolve tables rule ts p (getD sets (i / 2) 0) (i % 2)
   unfolding midOver midResolve
   mid-with sets i l =
       let c = getD sets (i / 2) 0 in
-      ap₂ (λ (a b : Best). cond (a .met) (midOf a c) (midOf b c)) (h c (i % 2) (tables .mixed) (rule .mids) l) (h c (i % 2) (tables .mixed) 8 (omega arith))
+      ap₂ (λ (a b : Best). cond (a .met) (midOf a c) (midOf b c)) (h c (i % 2) (tables .mixed) (rule .mids) l)
+      (h c (i % 2) (tables .mixed) 8 (omega arith))
 
 -- ---- as they start: the bases of a list of bytes, under the bounds b0 and b1 of an even and an odd sum
 abbrev pub Bases : List Float → ℕ → Closed → Closed → List ℕ → List Pair → Type 0
@@ -191,14 +195,15 @@ module _ (ts : List Float) (p : ℕ) where
       ∙ (ap₂ (λ (a : Best) (c : ℕ). startOver (fallback tables ts kind p (i / 64) (i % 64)) a c
       (ofParity (pairAt q (2 * (i % 64) + 1)) (i / 64)) (getD (bytesOf kind) (2 * (i % 64) + 1) 0)) b0 c0
       ∙ ap₂ (λ (a : Best) (c : ℕ). startOver (fallback tables ts kind p (i / 64) (i % 64))
-      (baseBest (classOf tables (i / 64)) (baseNow (row ts p (endByte tables kind (i % 64) 0) 0) (i / 64))) (endByte tables kind (i % 64) 0) a c) b1 c1)
+      (baseBest (classOf tables (i / 64)) (baseNow (row ts p (endByte tables kind (i % 64) 0) 0) (i / 64))) (endByte tables kind (i % 64) 0) a c)
+      b1 c1)
 
   -- the entries of an end, and the middle ones
   pub ends-flat : (kind : ℕ) (q : List Pair) → Bases ts p (tables .class0) (tables .class1) (bytesOf kind) q
-      → tab (λ (i : ℕ). startWith q (bytesOf kind) (fallbacksOf ts kind p) i) 128
+      → tab (startWith q (bytesOf kind) (fallbacksOf ts kind p)) 128
       ≡ tab (λ (i : ℕ). endStart tables ts kind p (i / 64) (i % 64)) 128
   ends-flat kind q h =
-      tab-eq Entry noEntry (λ (i : ℕ). startWith q (bytesOf kind) (fallbacksOf ts kind p) i)
+      tab-eq Entry noEntry (startWith q (bytesOf kind) (fallbacksOf ts kind p))
       (λ (i : ℕ). endStart tables ts kind p (i / 64) (i % 64)) 128 (start-with kind q h)
 
   mid-start-with : (sets : List ℕ) (q : List Pair) → Bases ts p (tables .mixed) (tables .mixed) sets q → (i : ℕ) → i < 256
@@ -211,7 +216,7 @@ module _ (ts : List Float) (p : ℕ) where
       ∙ ap (λ (b : Closed). baseBest b (baseNow (row ts p c 0) (i % 2))) (cond-same Closed (eqb (i % 2) 0) (tables .mixed)))
 
   pub mids-flat : (sets : List ℕ) (q : List Pair) → Bases ts p (tables .mixed) (tables .mixed) sets q
-      → tab (λ (i : ℕ). midStartWith q sets i) 256 ≡ tab (λ (i : ℕ). midStart tables ts p (getD sets (i / 2) 0) (i % 2)) 256
+      → tab (midStartWith q sets) 256 ≡ tab (λ (i : ℕ). midStart tables ts p (getD sets (i / 2) 0) (i % 2)) 256
   mids-flat sets q h =
-      tab-eq Entry noEntry (λ (i : ℕ). midStartWith q sets i) (λ (i : ℕ). midStart tables ts p (getD sets (i / 2) 0) (i % 2)) 256
+      tab-eq Entry noEntry (midStartWith q sets) (λ (i : ℕ). midStart tables ts p (getD sets (i / 2) 0) (i % 2)) 256
       (mid-start-with sets q h)

@@ -1,21 +1,19 @@
 // The entries of the join: as they start (`fallbacks`, `ends`, `mids`) and resolved in full (`end_resolve` and `mid_resolve` of the Rust's
 // encoder.rs, and the calls that resolve one entry or all that a bound leaves), over the flat rows of a section.
 ghost use mathlib.Core.Path.{_≡_};
-ghost use mathlib.Core.Bool.{cond, false};
 ghost use Prim.Native.Nat.{ℕ, _<_, _+_, _*_, _/_, _%_};
 ghost use lib.IntN.{pos};
 ghost use lib.ListN.{getD};
-ghost use lib.Ieee.{nan, lt, inf, binary64, mul, sub};
+ghost use lib.Ieee.{lt, binary64, mul, sub};
 ghost use Rattle.laws.specs.Lists.{tab};
 ghost use Rattle.trellis.specs.Tables as trellis;
 ghost use Rattle.search.specs.Tables as lists;
-ghost use Rattle.search.specs.Tables.{tables, classOf, fallbackAt};
+ghost use Rattle.search.specs.Tables.{tables, classOf};
 ghost use Rattle.search.specs.Entries as search;
-ghost use Rattle.search.specs.Join.{entAt};
 ghost use Rattle.search.specs.Parity.{fixed, closed};
 ghost use Rattle.solve.specs.Flat.{solveIn};
-ghost use Rattle.resolve.specs.Flat.{betterBy, midBy, endOver, endWith, midOver, midWith, fallbackIn, ofParity, loweredBy, startOver, startWith, baseEntry, midStartWith};
-ghost use Rattle.resolve.specs.Inner.{pointsFrom};
+ghost use Rattle.resolve.specs.Flat.{betterBy, midBy, endOver, endWith, midOver, midWith, closedWith};
+ghost use Rattle.resolve.specs.Flat.{fallbackIn, ofParity, loweredBy, startOver, startWith, baseEntry, midStartWith};
 use search::Best;
 use search::Closed;
 use search::Entry;
@@ -44,19 +42,12 @@ pub fn middle_sets() -> [u8; 128]
 }
 
 // ---- leaves
-// What every cost is below.
-fn infinite() -> f64
-    ensures { λ r. ⌜ r ≡ inf false ⌝ }
-{
-    f64::from_bits(0x7ff0_0000_0000_0000)
-}
-
 // What the join does not see.
 fn infeasible() -> Entry
     ensures { λ r. ⌜ r ≡ search.infeasible ⌝ }
 {
     Entry {
-        value: infinite(),
+        value: search::infinite(),
         exact: true,
         byte: 0,
         key: 0,
@@ -222,13 +213,13 @@ fn end_start(f: Entry, b0: Best, c0: u8, b1: Best, c1: u8) -> Entry
     ensures { λ r. ⌜ r ≡ startOver f b0 c0 b1 c1 ⌝ }
 {
     let e = nearer(nearer(f, b0, c0), b1, c1);
-    let lb = lowered(lowered(infinite(), b0), b1);
+    let lb = lowered(lowered(search::infinite(), b0), b1);
     settled(e, lb, !(b0.met & b1.met))
 }
 
 // The entries of an end as they start: the bases of both bytes of a state, and its fallback.
 pub fn ends(pairs: [Pair; 128], bytes: &[u8; 128], fall: [Entry; 128]) -> [Entry; 128]
-    ensures { λ r. ⌜ r ≡ tab (λ (i : ℕ). startWith pairs (now (bytes .entry)) fall i) 128 ⌝ }
+    ensures { λ r. ⌜ r ≡ tab (startWith pairs (now (bytes .entry)) fall) 128 ⌝ }
 {
     let none = infeasible();
     let mut out = [none; 128];
@@ -258,7 +249,7 @@ fn mid_start(q: Pair, d: usize, c: u8) -> Entry
 
 // The middle entries as they start: the bases of each byte.
 pub fn mids(pairs: [Pair; 128], sets: &[u8; 128]) -> [Entry; 256]
-    ensures { λ r. ⌜ r ≡ tab (λ (i : ℕ). midStartWith pairs (now (sets .entry)) i) 256 ⌝ }
+    ensures { λ r. ⌜ r ≡ tab (midStartWith pairs (now (sets .entry))) 256 ⌝ }
 {
     let none = infeasible();
     let mut out = [none; 256];
@@ -305,7 +296,9 @@ fn end_resolve(
     n: usize,
 ) -> Entry
     requires { ⌜ r < 2 ⌝ }
-    ensures { λ x. ⌜ x ≡ endOver tables (solveIn (now (regret .entry)) (now (dist .entry)) (now (weight .entry)) (now (rank .entry)) (now (odd .entry)) (now (up .entry))) f r c0 c1 n ⌝ }
+    ensures { λ x. ⌜ x ≡ endOver tables
+        (solveIn (now (regret .entry)) (now (dist .entry)) (now (weight .entry)) (now (rank .entry)) (now (odd .entry)) (now (up .entry)))
+        f r c0 c1 n ⌝ }
 {
     let b = class_bound(r);
     let e = better(
@@ -348,7 +341,9 @@ fn mid_resolve(
     n: usize,
 ) -> Entry
     requires { ⌜ d < 2 ⌝ }
-    ensures { λ x. ⌜ x ≡ midOver tables (solveIn (now (regret .entry)) (now (dist .entry)) (now (weight .entry)) (now (rank .entry)) (now (odd .entry)) (now (up .entry))) c d n ⌝ }
+    ensures { λ x. ⌜ x ≡ midOver tables
+        (solveIn (now (regret .entry)) (now (dist .entry)) (now (weight .entry)) (now (rank .entry)) (now (odd .entry)) (now (up .entry)))
+        c d n ⌝ }
 {
     let b = mixed_bound();
     let f = solve::solve(regret, dist, weight, rank, odd, up, c, d as u32, b, n);
@@ -389,7 +384,9 @@ fn end_closed(
     n: usize,
 ) -> Entry
     requires { ⌜ r < 2 ⌝ }
-    ensures { λ x. ⌜ x ≡ closed e (lt b u) (endOver tables (solveIn (now (regret .entry)) (now (dist .entry)) (now (weight .entry)) (now (rank .entry)) (now (odd .entry)) (now (up .entry))) f r c0 c1 n) ⌝ }
+    ensures { λ x. ⌜ x ≡ closed e (lt b u) (endOver tables
+        (solveIn (now (regret .entry)) (now (dist .entry)) (now (weight .entry)) (now (rank .entry)) (now (odd .entry)) (now (up .entry)))
+        f r c0 c1 n) ⌝ }
 {
     if e.exact {
         return e;
@@ -415,7 +412,9 @@ pub fn resolve_ends(
     u: f64,
     n: usize,
 ) -> [Entry; 128]
-    ensures { λ r. ⌜ r ≡ tab (λ (i : ℕ). closed (entAt e i) (lt (getD b i nan) u) (endWith tables (solveIn (now (regret .entry)) (now (dist .entry)) (now (weight .entry)) (now (rank .entry)) (now (odd .entry)) (now (up .entry))) (now (bytes .entry)) fall n i)) 128 ⌝ }
+    ensures { λ r. ⌜ r ≡ tab (closedWith e b u (endWith tables
+        (solveIn (now (regret .entry)) (now (dist .entry)) (now (weight .entry)) (now (rank .entry)) (now (odd .entry)) (now (up .entry)))
+        (now (bytes .entry)) fall n)) 128 ⌝ }
 {
     let none = infeasible();
     let mut out = [none; 128];
@@ -460,7 +459,9 @@ fn mid_closed(
     n: usize,
 ) -> Entry
     requires { ⌜ d < 2 ⌝ }
-    ensures { λ x. ⌜ x ≡ closed m (lt b u) (midOver tables (solveIn (now (regret .entry)) (now (dist .entry)) (now (weight .entry)) (now (rank .entry)) (now (odd .entry)) (now (up .entry))) c d n) ⌝ }
+    ensures { λ x. ⌜ x ≡ closed m (lt b u) (midOver tables
+        (solveIn (now (regret .entry)) (now (dist .entry)) (now (weight .entry)) (now (rank .entry)) (now (odd .entry)) (now (up .entry)))
+        c d n) ⌝ }
 {
     if m.exact {
         return m;
@@ -485,7 +486,9 @@ pub fn resolve_mids(
     u: f64,
     n: usize,
 ) -> [Entry; 256]
-    ensures { λ r. ⌜ r ≡ tab (λ (i : ℕ). closed (entAt e i) (lt (getD b i nan) u) (midWith tables (solveIn (now (regret .entry)) (now (dist .entry)) (now (weight .entry)) (now (rank .entry)) (now (odd .entry)) (now (up .entry))) (now (sets .entry)) n i)) 256 ⌝ }
+    ensures { λ r. ⌜ r ≡ tab (closedWith e b u (midWith tables
+        (solveIn (now (regret .entry)) (now (dist .entry)) (now (weight .entry)) (now (rank .entry)) (now (odd .entry)) (now (up .entry)))
+        (now (sets .entry)) n)) 256 ⌝ }
 {
     let none = infeasible();
     let mut out = [none; 256];
@@ -523,7 +526,9 @@ pub fn seed_end(
     i: usize,
     n: usize,
 ) -> [Entry; 128]
-    ensures { λ r. ⌜ r ≡ fixed e i (endWith tables (solveIn (now (regret .entry)) (now (dist .entry)) (now (weight .entry)) (now (rank .entry)) (now (odd .entry)) (now (up .entry))) (now (bytes .entry)) fall n i) ⌝ }
+    ensures { λ r. ⌜ r ≡ fixed e i (endWith tables
+        (solveIn (now (regret .entry)) (now (dist .entry)) (now (weight .entry)) (now (rank .entry)) (now (odd .entry)) (now (up .entry)))
+        (now (bytes .entry)) fall n i) ⌝ }
 {
     if i >= 128 {
         return e;
@@ -553,7 +558,9 @@ pub fn seed_mid(
     m: usize,
     n: usize,
 ) -> [Entry; 256]
-    ensures { λ r. ⌜ r ≡ fixed e m (midWith tables (solveIn (now (regret .entry)) (now (dist .entry)) (now (weight .entry)) (now (rank .entry)) (now (odd .entry)) (now (up .entry))) (now (sets .entry)) n m) ⌝ }
+    ensures { λ r. ⌜ r ≡ fixed e m (midWith tables
+        (solveIn (now (regret .entry)) (now (dist .entry)) (now (weight .entry)) (now (rank .entry)) (now (odd .entry)) (now (up .entry)))
+        (now (sets .entry)) n m) ⌝ }
 {
     if m >= 256 {
         return e;

@@ -1,5 +1,7 @@
 // What the search at one scale computes with. The search itself is defined in specs/, function by function of the Rust's encoder.rs; the
 // crates above hold code that is proved to compute it.
+ghost use mathlib.Core.Path.{_≡_};
+ghost use Rattle.search.specs.Solve.{infinity};
 
 // One coordinate under one offset at one shrink: its rounding k0, the side on which its target lies (dir, 1 or -1), how far off the rounding
 // is (regret), and the five values o + 4k for k from k0 - 2 to k0 + 2, each with its rank (15 for none), its weight (2 rank + 1)^2 and its
@@ -80,4 +82,11 @@ pub struct Winner {
     pub s1: Entry,
     pub s2: Entry,
     pub s3: Entry,
+}
+
+// What every cost is below.
+pub fn infinite() -> f64
+    ensures { λ r. ⌜ r ≡ infinity ⌝ }
+{
+    1.0 / 0.0
 }

@@ -62,15 +62,5 @@ returns-3 c =
 pub code-at-spec : {M : Type 1} → statement M
 code-at-spec =
     tie.close
-    (tie.spec
-    enum-told
-    zero-code-requires
-    enum-known-choice
-    two-scales-requires
-    enum-known-choice-2
-    quotients-requires
-    two-scales-requires-2
-    scaled-back-requires
-    returns
-    returns-2
-    returns-3)
+    (tie.spec enum-told zero-code-requires enum-known-choice two-scales-requires enum-known-choice-2 quotients-requires two-scales-requires-2
+    scaled-back-requires returns returns-2 returns-3)

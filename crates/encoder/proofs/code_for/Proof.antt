@@ -24,5 +24,4 @@ returns c =
     ∙ ap (codeOf (a .samples)) (c .before .winner-for .ensures ∙ ap (winnerFor bothParities (a .setting)) (c .before .before .quotients .ensures))
 
 pub code-for-spec : {M : Type 1} → statement M
-code-for-spec =
-    tie.close (tie.spec quotients-requires winner-for-requires code-of-requires returns)
+code-for-spec = tie.close (tie.spec quotients-requires winner-for-requires code-of-requires returns)

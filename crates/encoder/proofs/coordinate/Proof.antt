@@ -43,14 +43,4 @@ returns-2 c =
     ∙ ap₂ (λ (b r : ℕ). valOf (a .p + 2 * b) r) (and-mask (a .c / 2 ^ a .j) 1) (and-mask (a .key / 2 ^ (4 * a .j)) 4)
 
 pub coordinate-spec : {M : Type 1} → statement M
-coordinate-spec =
-    tie.close
-    (tie.spec
-    returns
-    shr-value
-    mul-value
-    add-value
-    mul-value-2
-    shr-value-2
-    value-requires
-    returns-2)
+coordinate-spec = tie.close (tie.spec returns shr-value mul-value add-value mul-value-2 shr-value-2 value-requires returns-2)

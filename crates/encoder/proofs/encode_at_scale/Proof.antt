@@ -54,11 +54,4 @@ returns-3 c =
 pub encode-at-scale-spec : {M : Type 1} → statement M
 encode-at-scale-spec =
     tie.close
-    (tie.spec
-    zero-code-requires
-    returns
-    scale-number-requires
-    zero-code-requires-2
-    returns-2
-    code-for-requires
-    returns-3)
+    (tie.spec zero-code-requires returns scale-number-requires zero-code-requires-2 returns-2 code-for-requires returns-3)

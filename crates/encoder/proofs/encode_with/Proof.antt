@@ -60,12 +60,4 @@ returns-3 c =
 pub encode-with-spec : {M : Type 1} → statement M
 encode-with-spec =
     tie.close
-    (tie.spec
-    zero-code-requires
-    returns
-    sample-number-requires
-    zero-code-requires-2
-    returns-2
-    choice-of-requires
-    code-at-requires
-    returns-3)
+    (tie.spec zero-code-requires returns sample-number-requires zero-code-requires-2 returns-2 choice-of-requires code-at-requires returns-3)

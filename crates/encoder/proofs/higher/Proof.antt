@@ -1,12 +1,14 @@
 -- `encoder::higher` meets its contract, by the two cases of its test. Assumes nothing.
+use mathlib.Core.Path.{sym, ap}
+use mathlib.Core.Bool.{Bool, cond}
 use Rattle.encoder.proofs.higher.Statement.{statement}
 use Rattle.encoder.proofs.higher.Tie as tie
 
 returns : tie.Need-returns
-returns c = rw (c .if1 .taken)
+returns c = let s = c .before .before .before .args in sym (ap (λ (t : Bool). cond t (s .b) (s .a)) (c .if1 .taken))
 
 returns-2 : tie.Need-returns-2
-returns-2 c = rw (c .if1 .left)
+returns-2 c = let s = c .before .before .before .args in sym (ap (λ (t : Bool). cond t (s .b) (s .a)) (c .if1 .left))
 
 pub higher-spec : {M : Type 1} → statement M
 higher-spec = tie.close (tie.spec returns returns-2)

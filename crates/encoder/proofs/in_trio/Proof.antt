@@ -33,12 +33,4 @@ returns-3 c =
     rw (le-ltb _ _ (c .before .before .if1 .left), le-ltb _ _ (c .before .if2 .left)) (toZ-ofZ f ∙ c .coordinate3 .ensures)
 
 pub in-trio-spec : {M : Type 1} → statement M
-in-trio-spec =
-    tie.close
-    (tie.spec
-    coordinate-requires
-    returns
-    coordinate-requires-2
-    returns-2
-    coordinate-requires-3
-    returns-3)
+in-trio-spec = tie.close (tie.spec coordinate-requires returns coordinate-requires-2 returns-2 coordinate-requires-3 returns-3)

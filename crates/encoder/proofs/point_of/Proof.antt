@@ -68,16 +68,4 @@ returns c =
 pub point-of-spec : {M : Type 1} → statement M
 point-of-spec =
     tie.close
-    (tie.spec
-    Inv-loop
-    μ-loop
-    loop-holds
-    place-requires
-    cast-in-trio
-    in-trio-requires
-    mul-out
-    array-set-from-out
-    add-i
-    loop-less
-    loop-again
-    returns)
+    (tie.spec Inv-loop μ-loop loop-holds place-requires cast-in-trio in-trio-requires mul-out array-set-from-out add-i loop-less loop-again returns)

@@ -58,16 +58,4 @@ returns c =
 pub section-spec : {M : Type 1} → statement M
 section-spec =
     tie.close
-    (tie.spec
-    Inv-loop
-    μ-loop
-    loop-holds
-    add-out
-    mul-out
-    array-read-out
-    mul-out-2
-    array-write-out
-    add-j
-    loop-less
-    loop-again
-    returns)
+    (tie.spec Inv-loop μ-loop loop-holds add-out mul-out array-read-out mul-out-2 array-write-out add-j loop-less loop-again returns)

@@ -63,16 +63,4 @@ returns c =
 pub trio-spec : {M : Type 1} → statement M
 trio-spec =
     tie.close
-    (tie.spec
-    Inv-loop
-    μ-loop
-    loop-holds
-    order-requires
-    mul-out
-    array-read-out
-    mul-out-2
-    array-write-out
-    add-j
-    loop-less
-    loop-again
-    returns)
+    (tie.spec Inv-loop μ-loop loop-holds order-requires mul-out array-read-out mul-out-2 array-write-out add-j loop-less loop-again returns)

@@ -36,6 +36,4 @@ returns c =
     (c .higher .ensures)
 
 pub two-scales-spec : {M : Type 1} → statement M
-two-scales-spec =
-    tie.close
-    (tie.spec code-for-requires second-scale-requires code-for-requires-2 higher-requires returns)
+two-scales-spec = tie.close (tie.spec code-for-requires second-scale-requires code-for-requires-2 higher-requires returns)

@@ -52,12 +52,4 @@ returns c =
     (c .before .before .section2 .ensures) (c .before .section3 .ensures))
 
 pub winner-for-spec : {M : Type 1} → statement M
-winner-for-spec =
-    tie.close
-    (tie.spec
-    trio-requires
-    section-requires
-    section-requires-2
-    section-requires-3
-    search-requires
-    returns)
+winner-for-spec = tie.close (tie.spec trio-requires section-requires section-requires-2 section-requires-3 search-requires returns)

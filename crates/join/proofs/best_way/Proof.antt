@@ -43,15 +43,4 @@ returns : tie.Need-returns Inv-loop μ-loop
 returns c = λ s h. let e : c .before .loop .i1 ≡ 128 = omega arith in rw e at (c .before .loop .inv .1 s h)
 
 pub best-way-spec : {M : Type 1} → statement M
-best-way-spec =
-    tie.close
-    (tie.spec
-    Inv-loop
-    μ-loop
-    infinite-requires
-    loop-holds
-    entered-requires
-    add-i1
-    loop-less
-    loop-again
-    returns)
+best-way-spec = tie.close (tie.spec Inv-loop μ-loop infinite-requires loop-holds entered-requires add-i1 loop-less loop-again returns)

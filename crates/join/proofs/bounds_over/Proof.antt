@@ -134,39 +134,8 @@ returns c = λ s h x. let e : c .before .loop .n ≡ 4096 = omega arith in rw e 
 pub bounds-over-spec : {M : Type 1} → statement M
 bounds-over-spec =
     tie.close
-    (tie.spec
-    Inv-loop
-    μ-loop
-    infinite-requires
-    loop-holds
-    mid-at-requires
-    last-at-requires
-    mul-cost
-    element-copy-out-cost
-    mul-cost-2
-    element-copy-out-cost-2
-    mul-cost-3
-    element-copy-out-cost-3
-    element-copy-out-exact-cost
-    element-copy-out-exact-cost-2
-    element-copy-out-exact-cost-3
-    exact-cost-requires
-    mul-lowest
-    array-read-lowest
-    lowest-requires
-    mul-b1
-    array-write-b1
-    mul-lowest-2
-    array-read-lowest-2
-    lowest-requires-2
-    mul-b2
-    array-write-b2
-    mul-lowest-3
-    array-read-lowest-3
-    lowest-requires-3
-    mul-b3
-    array-write-b3
-    add-n
-    loop-less
-    loop-again
-    returns)
+    (tie.spec Inv-loop μ-loop infinite-requires loop-holds mid-at-requires last-at-requires mul-cost element-copy-out-cost mul-cost-2
+    element-copy-out-cost-2 mul-cost-3 element-copy-out-cost-3 element-copy-out-exact-cost element-copy-out-exact-cost-2
+    element-copy-out-exact-cost-3 exact-cost-requires mul-lowest array-read-lowest lowest-requires mul-b1 array-write-b1 mul-lowest-2
+    array-read-lowest-2 lowest-requires-2 mul-b2 array-write-b2 mul-lowest-3 array-read-lowest-3 lowest-requires-3 mul-b3 array-write-b3 add-n
+    loop-less loop-again returns)

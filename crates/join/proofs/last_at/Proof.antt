@@ -35,13 +35,4 @@ returns c = (rw (c .before .pre .1), omega (arith, state-lt _ (c .before .pre .1
 pub last-at-spec : {M : Type 1} → statement M
 last-at-spec =
     tie.close
-    (tie.spec
-    add-result
-    add-result-2
-    mul-result
-    mul-result-2
-    add-result-3
-    element-copy-out-result
-    cast-result
-    add-result-4
-    returns)
+    (tie.spec add-result add-result-2 mul-result mul-result-2 add-result-3 element-copy-out-result cast-result add-result-4 returns)

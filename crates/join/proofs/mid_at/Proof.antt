@@ -27,13 +27,4 @@ returns : tie.Need-returns
 returns c = (rw (c .before .pre .1), omega (arith, entry-lt _ (c .before .pre .1) (c .before .args .i1) (c .before .args .t) (omega arith)))
 
 pub mid-at-spec : {M : Type 1} → statement M
-mid-at-spec =
-    tie.close
-    (tie.spec
-    mul-result
-    add-result
-    element-copy-out-result
-    cast-result
-    mul-result-2
-    add-result-2
-    returns)
+mid-at-spec = tie.close (tie.spec mul-result add-result element-copy-out-result cast-result mul-result-2 add-result-2 returns)

@@ -74,19 +74,5 @@ returns c = λ s h. let e : c .before .loop .t ≡ 32 = omega arith in rw e at (
 pub row-spec : {M : Type 1} → statement M
 row-spec =
     tie.close
-    (tie.spec
-    Inv-loop
-    μ-loop
-    mul-a
-    element-copy-out-a
-    loop-holds
-    mid-at-requires
-    last-at-requires
-    mul-cost
-    element-copy-out-cost
-    mul-cost-2
-    element-copy-out-cost-2
-    add-t
-    loop-less
-    loop-again
-    returns)
+    (tie.spec Inv-loop μ-loop mul-a element-copy-out-a loop-holds mid-at-requires last-at-requires mul-cost element-copy-out-cost mul-cost-2
+    element-copy-out-cost-2 add-t loop-less loop-again returns)

@@ -16,8 +16,8 @@ use Rattle.parity.proofs.end_starts.Tie as tie
 
 started : (bytes : List ℕ) (fall : List Entry) (f : ℕ → Closed → Closed → Pair) {b0 b1 : Closed} {q : List Pair} {e : List Entry}
     → b0 ≡ tables .class0 → b1 ≡ tables .class1 → q ≡ tab (λ (i : ℕ). f (getD bytes i 0) b0 b1) 128
-    → e ≡ tab (λ (i : ℕ). startWith q bytes fall i) 128
-    → e ≡ tab (λ (i : ℕ). startWith (tab (λ (j : ℕ). f (getD bytes j 0) (tables .class0) (tables .class1)) 128) bytes fall i) 128
+    → e ≡ tab (startWith q bytes fall) 128
+    → e ≡ tab (startWith (tab (λ (j : ℕ). f (getD bytes j 0) (tables .class0) (tables .class1)) 128) bytes fall) 128
 started bytes fall f h0 h1 hq he = he ∙ rw (hq, h0, h1)
 
 class-bound-requires : tie.Need-class-bound-requires
@@ -39,6 +39,4 @@ returns c =
     (c .before .before .before .class-bound .ensures) (c .before .before .class-bound2 .ensures) (c .before .pairs .ensures) (c .ends .ensures)
 
 pub end-starts-spec : {M : Type 1} → statement M
-end-starts-spec =
-    tie.close
-    (tie.spec class-bound-requires class-bound-requires-2 pairs-requires ends-requires returns)
+end-starts-spec = tie.close (tie.spec class-bound-requires class-bound-requires-2 pairs-requires ends-requires returns)

@@ -31,17 +31,11 @@ returns c =
     let f = e .before .before .before .before .before .before .before .before in
     let r = f .before .before .before .before .before .before .before .before in
     let s = r .before .args in
-    with-last (s .setting) (s .p % 2) (s .u0) (endWith tables (solveIn (s .g1 .now) (s .d1 .now) (s .w1 .now) (s .k1 .now) (s .o1 .now) (s .v1 .now)) prefixes (s .fall1) (ruleOf (s .setting) .ends))
+    with-last (s .setting) (s .p % 2) (s .u0)
+    (endWith tables (solveIn (s .g1 .now) (s .d1 .now) (s .w1 .now) (s .k1 .now) (s .o1 .now) (s .v1 .now)) prefixes (s .fall1)
+    (ruleOf (s .setting) .ends))
     (midWith tables (solveIn (s .g2 .now) (s .d2 .now) (s .w2 .now) (s .k2 .now) (s .o2 .now) (s .v2 .now)) middleSets (ruleOf (s .setting) .mids))
     (s .e1) (s .e2) (s .t3) (r .rows-of .ensures) (f .before .suffixes .ensures) (f .fallbacks .ensures) (e .end-starts .ensures) (c .pass .ensures)
 
 pub last-spec : {M : Type 1} → statement M
-last-spec =
-    tie.close
-    (tie.spec
-    rows-of-requires
-    suffixes-requires
-    fallbacks-requires
-    end-starts-requires
-    pass-requires
-    returns)
+last-spec = tie.close (tie.spec rows-of-requires suffixes-requires fallbacks-requires end-starts-requires pass-requires returns)

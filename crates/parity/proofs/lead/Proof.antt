@@ -34,14 +34,4 @@ returns c =
     ap (headBy (record { e1 = s .t2; e2 = s .t3; e3 = s .t4 })) (j .join .ensures .0)
 
 pub lead-spec : {M : Type 1} → statement M
-lead-spec =
-    tie.close
-    (tie.spec
-    join-requires
-    mul-x1
-    array-copy-out-x1
-    mul-x2
-    array-copy-out-x2
-    mul-x3
-    array-copy-out-x3
-    returns)
+lead-spec = tie.close (tie.spec join-requires mul-x1 array-copy-out-x1 mul-x2 array-copy-out-x2 mul-x3 array-copy-out-x3 returns)

@@ -15,8 +15,8 @@ use Rattle.parity.proofs.mid_starts.Statement.{statement}
 use Rattle.parity.proofs.mid_starts.Tie as tie
 
 started : (sets : List ℕ) (f : ℕ → Closed → Closed → Pair) {b : Closed} {q : List Pair} {e : List Entry}
-    → b ≡ tables .mixed → q ≡ tab (λ (i : ℕ). f (getD sets i 0) b b) 128 → e ≡ tab (λ (i : ℕ). midStartWith q sets i) 256
-    → e ≡ tab (λ (i : ℕ). midStartWith (tab (λ (j : ℕ). f (getD sets j 0) (tables .mixed) (tables .mixed)) 128) sets i) 256
+    → b ≡ tables .mixed → q ≡ tab (λ (i : ℕ). f (getD sets i 0) b b) 128 → e ≡ tab (midStartWith q sets) 256
+    → e ≡ tab (midStartWith (tab (λ (j : ℕ). f (getD sets j 0) (tables .mixed) (tables .mixed)) 128) sets) 256
 started sets f hb hq he = he ∙ rw (hq, hb)
 
 mixed-bound-requires : tie.Need-mixed-bound-requires

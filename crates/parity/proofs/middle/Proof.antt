@@ -30,11 +30,11 @@ returns c =
     let m = e .before .before .before .before .before .before .before .before in
     let r = m .before .before .before .before .before .before .before in
     let s = r .before .args in
-    with-middle (s .setting) (s .p % 2) (s .u0) (endWith tables (solveIn (s .g1 .now) (s .d1 .now) (s .w1 .now) (s .k1 .now) (s .o1 .now) (s .v1 .now)) prefixes (s .fall1) (ruleOf (s .setting) .ends))
+    with-middle (s .setting) (s .p % 2) (s .u0)
+    (endWith tables (solveIn (s .g1 .now) (s .d1 .now) (s .w1 .now) (s .k1 .now) (s .o1 .now) (s .v1 .now)) prefixes (s .fall1)
+    (ruleOf (s .setting) .ends))
     (solved3 tables (ruleOf (s .setting)) (s .t3) (s .p % 2)) (s .e1) (lastStart (s .t3) (s .p % 2)) (s .t2)
     (r .rows-of .ensures) (m .middle-sets .ensures) (e .mid-starts .ensures) (c .last .ensures)
 
 pub middle-spec : {M : Type 1} → statement M
-middle-spec =
-    tie.close
-    (tie.spec rows-of-requires middle-sets-requires mid-starts-requires last-requires returns)
+middle-spec = tie.close (tie.spec rows-of-requires middle-sets-requires mid-starts-requires last-requires returns)

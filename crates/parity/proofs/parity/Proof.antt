@@ -1,4 +1,5 @@
--- `parity::parity` meets its contract: what it makes of the first section is that of crate search, and so the pass is the definition. Assumes nothing.
+-- `parity::parity` meets its contract: what it makes of the first section is that of crate search, and so the pass is the definition.
+-- Assumes nothing.
 use borrow.Author.Needs.{needs}
 use Prim.Native.Nat.{_%_}
 use Rattle.parity.proofs.Sections.{with-first}
@@ -26,16 +27,8 @@ returns c =
     let f = e .before .before .before .before .before .before .before .before in
     let r = f .before .before .before .before .before .before .before .before in
     let s = r .before .args in
-    with-first (s .setting) (s .p % 2) (s .u0) (record { t1 = s .t1; t2 = s .t2; t3 = s .t3 }) (r .rows-of .ensures) (f .before .prefixes .ensures) (f .fallbacks .ensures)
-    (e .end-starts .ensures) (c .middle .ensures)
+    with-first (s .setting) (s .p % 2) (s .u0) (record { t1 = s .t1; t2 = s .t2; t3 = s .t3 })
+    (r .rows-of .ensures) (f .before .prefixes .ensures) (f .fallbacks .ensures) (e .end-starts .ensures) (c .middle .ensures)
 
 pub parity-spec : {M : Type 1} → statement M
-parity-spec =
-    tie.close
-    (tie.spec
-    rows-of-requires
-    prefixes-requires
-    fallbacks-requires
-    end-starts-requires
-    middle-requires
-    returns)
+parity-spec = tie.close (tie.spec rows-of-requires prefixes-requires fallbacks-requires end-starts-requires middle-requires returns)

@@ -88,31 +88,18 @@ returns c =
     let x30 = x29 .before in
     let x31 = x30 .before in
     let s = x31 .before .args in
-    passed (solveIn (s .g1 .now) (s .d1 .now) (s .w1 .now) (s .k1 .now) (s .o1 .now) (s .v1 .now)) (solveIn (s .g2 .now) (s .d2 .now) (s .w2 .now) (s .k2 .now) (s .o2 .now) (s .v2 .now)) (solveIn (s .g3 .now) (s .d3 .now) (s .w3 .now) (s .k3 .now) (s .o3 .now) (s .v3 .now)) (s .fall1) (s .fall3) (s .setting) (s .p % 2) (s .e1) (s .e2) (s .e3) (s .u0)
-    (x31 .prefixes .ensures) (x30 .middle-sets .ensures) (x29 .suffixes .ensures) (x28 .ends-of .ensures) (x27 .mids-of .ensures) (x26 .lead .ensures) (x24 .seed-end .ensures) (x22 .seed-mid .ensures) (x20 .seed-end2 .ensures) (x19 .known .ensures) (x18 .next .ensures) (x16 .seed-end3 .ensures) (x14 .seed-mid2 .ensures) (x12 .seed-end4 .ensures) (x11 .known2 .ensures) (x10 .bounds .ensures) (x5 .resolve-ends .ensures) (x3 .resolve-mids .ensures) (x1 .resolve-ends2 .ensures) (c .winner .ensures)
+    passed (solveIn (s .g1 .now) (s .d1 .now) (s .w1 .now) (s .k1 .now) (s .o1 .now) (s .v1 .now))
+    (solveIn (s .g2 .now) (s .d2 .now) (s .w2 .now) (s .k2 .now) (s .o2 .now) (s .v2 .now))
+    (solveIn (s .g3 .now) (s .d3 .now) (s .w3 .now) (s .k3 .now) (s .o3 .now) (s .v3 .now))
+    (s .fall1) (s .fall3) (s .setting) (s .p % 2) (s .e1) (s .e2) (s .e3) (s .u0)
+    (x31 .prefixes .ensures) (x30 .middle-sets .ensures) (x29 .suffixes .ensures) (x28 .ends-of .ensures) (x27 .mids-of .ensures)
+    (x26 .lead .ensures) (x24 .seed-end .ensures) (x22 .seed-mid .ensures) (x20 .seed-end2 .ensures) (x19 .known .ensures)
+    (x18 .next .ensures) (x16 .seed-end3 .ensures) (x14 .seed-mid2 .ensures) (x12 .seed-end4 .ensures) (x11 .known2 .ensures)
+    (x10 .bounds .ensures) (x5 .resolve-ends .ensures) (x3 .resolve-mids .ensures) (x1 .resolve-ends2 .ensures) (c .winner .ensures)
 
 pub pass-spec : {M : Type 1} → statement M
 pass-spec =
     tie.close
-    (tie.spec
-    prefixes-requires
-    middle-sets-requires
-    suffixes-requires
-    ends-of-requires
-    mids-of-requires
-    lead-requires
-    seed-end-requires
-    seed-mid-requires
-    seed-end-requires-2
-    known-requires
-    next-requires
-    seed-end-requires-3
-    seed-mid-requires-2
-    seed-end-requires-4
-    known-requires-2
-    bounds-requires
-    resolve-ends-requires
-    resolve-mids-requires
-    resolve-ends-requires-2
-    winner-requires
-    returns)
+    (tie.spec prefixes-requires middle-sets-requires suffixes-requires ends-of-requires mids-of-requires lead-requires seed-end-requires
+    seed-mid-requires seed-end-requires-2 known-requires next-requires seed-end-requires-3 seed-mid-requires-2 seed-end-requires-4 known-requires-2
+    bounds-requires resolve-ends-requires resolve-mids-requires resolve-ends-requires-2 winner-requires returns)

@@ -1,7 +1,6 @@
 -- `parity::search` meets its contract: parity 0, then parity 1. Assumes nothing.
 use borrow.Author.Needs.{needs}
-use mathlib.Core.Path.{_≡_, refl, _∙_, ap, ap₂}
-use Prim.Native.Nat.{ℕ}
+use mathlib.Core.Path.{_≡_, _∙_, ap, ap₂}
 use lib.Ieee.{Float}
 use Rattle.search.specs.declared.Winner.{Winner}
 use Rattle.search.specs.Tables.{tables}
@@ -43,19 +42,13 @@ choose-requires-2 c κs = search needs
 
 returns : tie.Need-returns
 returns c =
-    let s = c .before .before .before .before .before .before .before .args in
-    both (ruleOf (s .setting)) (record { t1 = s .t1; t2 = s .t2; t3 = s .t3 }) (c .before .before .before .before .before .before .nobody .ensures) (c .before .before .before .before .before .cost-of .ensures) (c .before .before .before .before .parity .ensures) (c .before .before .before .choose .ensures)
-    (c .before .before .cost-of2 .ensures) (c .before .parity2 .ensures) (c .choose2 .ensures)
+    let even = c .before .before .before in
+    let none = even .before .before .before in
+    let s = none .before .args in
+    both (ruleOf (s .setting)) (record { t1 = s .t1; t2 = s .t2; t3 = s .t3 }) (none .nobody .ensures) (even .before .before .cost-of .ensures)
+    (even .before .parity .ensures) (even .choose .ensures) (c .before .before .cost-of2 .ensures) (c .before .parity2 .ensures) (c .choose2 .ensures)
 
 pub search-spec : {M : Type 1} → statement M
 search-spec =
     tie.close
-    (tie.spec
-    nobody-requires
-    cost-of-requires
-    parity-requires
-    choose-requires
-    cost-of-requires-2
-    parity-requires-2
-    choose-requires-2
-    returns)
+    (tie.spec nobody-requires cost-of-requires parity-requires choose-requires cost-of-requires-2 parity-requires-2 choose-requires-2 returns)

@@ -1,6 +1,6 @@
 -- `parity::winner` meets its contract: the path is that of the join. Assumes nothing.
 use borrow.Author.Needs.{needs}
-use mathlib.Core.Path.{_≡_, refl, _∙_, ap}
+use mathlib.Core.Path.{_≡_, ap}
 use mathlib.Core.Bool.{Bool}
 use Prim.Native.Nat.{ℕ, _%_}
 use lib.Ieee.Scale.{finite}
@@ -58,15 +58,4 @@ returns c =
     won (s .p % 2) (record { e1 = s .t2; e2 = s .t3; e3 = s .t4 }) (j .join .ensures .0) (c .is-finite .ensures)
 
 pub winner-spec : {M : Type 1} → statement M
-winner-spec =
-    tie.close
-    (tie.spec
-    join-requires
-    mul-s1
-    array-copy-out-s1
-    mul-s2
-    array-copy-out-s2
-    mul-s3
-    array-copy-out-s3
-    is-finite-requires
-    returns)
+winner-spec = tie.close (tie.spec join-requires mul-s1 array-copy-out-s1 mul-s2 array-copy-out-s2 mul-s3 array-copy-out-s3 is-finite-requires returns)

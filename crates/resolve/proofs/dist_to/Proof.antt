@@ -78,19 +78,5 @@ returns c = let e : c .before .loop .j ≡ 8 = omega arith in rw e at (c .before
 pub dist-to-spec : {M : Type 1} → statement M
 dist-to-spec =
     tie.close
-    (tie.spec
-    Inv-loop
-    μ-loop
-    loop-holds
-    mul-sq
-    add-sq
-    mul-sq-2
-    element-copy-out-sq
-    int-to-float-sq
-    mul-sq-3
-    array-read-sq
-    sq-requires
-    add-j
-    loop-less
-    loop-again
-    returns)
+    (tie.spec Inv-loop μ-loop loop-holds mul-sq add-sq mul-sq-2 element-copy-out-sq int-to-float-sq mul-sq-3 array-read-sq sq-requires add-j
+    loop-less loop-again returns)

@@ -27,7 +27,13 @@ better-requires-2 : tie.Need-better-requires-2
 better-requires-2 c κs = search needs
 
 returns : tie.Need-returns
-returns c = let s = c .before .before .before .before .before .args in ended (solveIn (s .regret .now) (s .dist .now) (s .weight .now) (s .rank .now) (s .odd .now) (s .up .now)) (s .f) (s .r) (s .c0) (s .c1) (s .n) (c .before .before .before .before .class-bound .ensures) (c .before .before .before .solve .ensures) (c .before .before .better .ensures) (c .before .solve2 .ensures) (c .better2 .ensures)
+returns c =
+    let f0 = c .before .before .before in
+    let s = f0 .before .before .args in
+    ended (solveIn (s .regret .now) (s .dist .now) (s .weight .now) (s .rank .now) (s .odd .now) (s .up .now)) (s .f) (s .r) (s .c0) (s .c1) (s .n)
+    (f0 .before .class-bound .ensures) (f0 .solve .ensures) (c .before .before .better .ensures) (c .before .solve2 .ensures) (c .better2 .ensures)
 
 pub end-resolve-spec : {M : Type 1} → statement M
-end-resolve-spec = tie.close (tie.spec class-bound-requires cast-solve solve-requires better-requires cast-solve-2 solve-requires-2 better-requires-2 returns)
+end-resolve-spec =
+    tie.close
+    (tie.spec class-bound-requires cast-solve solve-requires better-requires cast-solve-2 solve-requires-2 better-requires-2 returns)

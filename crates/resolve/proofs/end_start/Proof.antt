@@ -23,7 +23,15 @@ settled-requires : tie.Need-settled-requires
 settled-requires c κs = search needs
 
 returns : tie.Need-returns
-returns c = let s = c .before .before .before .before .before .before .before .before .args in started (s .f) (s .b0) (s .c0) (s .b1) (s .c1) (c .before .before .before .before .before .before .before .nearer .ensures) (c .before .before .before .before .before .before .nearer2 .ensures) (c .before .before .before .before .before .infinite .ensures) (c .before .before .before .before .lowered .ensures) (c .before .before .before .lowered2 .ensures) (c .settled .ensures)
+returns c =
+    let l2 = c .before .before .before in
+    let l1 = l2 .before in
+    let top = l1 .before in
+    let n2 = top .before in
+    let n1 = n2 .before in
+    let s = n1 .before .args in
+    started (s .f) (s .b0) (s .c0) (s .b1) (s .c1) (n1 .nearer .ensures) (n2 .nearer2 .ensures) (top .infinite .ensures) (l1 .lowered .ensures)
+    (l2 .lowered2 .ensures) (c .settled .ensures)
 
 pub end-start-spec : {M : Type 1} → statement M
 end-start-spec = tie.close (tie.spec nearer-requires nearer-requires-2 infinite-requires lowered-requires lowered-requires-2 settled-requires returns)

@@ -1,20 +1,15 @@
 -- `resolve::ends` meets its contract. The invariant: the first i entries are made. Assumes nothing.
-use borrow.Author.Needs.{needs}
+use Prim.Native.Nat.{_-_}
 use native.Mathlib.Omega.{arith}
-use Prim.Native.Nat.{ℕ, _≤_, _<_, _+_, _-_, _*_, _%_}
-use mathlib.Core.Path.{_≡_}
-use lib.ListN.{length, getD, length-set}
-use borrow.Author.Count.{below-none}
-use Rattle.laws.specs.Lists.{filled, filled-more}
-use Rattle.search.specs.declared.Entry.{Entry}
-use Rattle.search.specs.Join.{entAt, noEntry}
+use borrow.Author.Needs.{needs}
 use Rattle.resolve.specs.Flat.{startWith}
 use Rattle.resolve.proofs.Answers.{of-bases}
+use Rattle.resolve.proofs.Made.{Made, made-none, made-more, made-all}
 use Rattle.resolve.proofs.ends.Statement.{statement}
 use Rattle.resolve.proofs.ends.Tie as tie
 
 abbrev Inv-loop : tie.InvT-loop
-Inv-loop bytes pairs fall out₀ i₀ out i = (i ≤ 128) × ((length out ≡ 128) × ((k : ℕ) → k < i → entAt out k ≡ startWith pairs bytes fall k))
+Inv-loop bytes pairs fall out₀ i₀ out i = Made 128 i (startWith pairs bytes fall) out
 
 abbrev μ-loop : tie.MeasureT-loop
 μ-loop bytes pairs fall out₀ i₀ out i = 128 - i
@@ -23,7 +18,7 @@ infeasible-requires : tie.Need-infeasible-requires Inv-loop μ-loop
 infeasible-requires c κs = search needs
 
 loop-holds : tie.Need-loop-holds Inv-loop μ-loop
-loop-holds c = (omega arith, (search needs, below-none _))
+loop-holds c = made-none 128 _ _ (search needs)
 
 mul-f : tie.Need-mul-f Inv-loop μ-loop
 mul-f c = search needs
@@ -89,20 +84,17 @@ loop-less : tie.Need-loop-less Inv-loop μ-loop
 loop-less c = search needs
 
 loop-again : tie.Need-loop-again Inv-loop μ-loop
-loop-again c = let l = c .before .before .before .before .before .before .before .before .before .loop in
-    let s = c .before .before .before .before .before .before .before .before .before .before .before .args in (
-      omega arith,
-      (
-        simp length-set (l .inv .1 .0),
-        filled-more Entry noEntry (λ (k : ℕ). startWith (s .t1) (s .bytes .now) (s .t3) k) (l .out) (l .i) _ (omega arith) (of-bases (entAt (s .t3) (l .i)) (getD (s .bytes .now) (2 * (l .i % 64)) 0) (getD (s .bytes .now) (2 * (l .i % 64) + 1) 0) (c .before .before .before .before .of-parity .ensures) (c .before .before .before .of-parity2 .ensures) (c .end-start .ensures)) (l .inv .1 .1),
-      ),
-    )
+loop-again c =
+    let l = c .before .before .before .before .before .before .before .before .before .loop in
+    made-more (l .inv) (omega arith)
+    (of-bases _ _ _ (c .before .before .before .before .of-parity .ensures) (c .before .before .before .of-parity2 .ensures) (c .end-start .ensures))
 
 returns : tie.Need-returns Inv-loop μ-loop
-returns c = let l = c .before .loop in
-    let s = c .before .before .before .args in
-    let e : l .i ≡ 128 = omega arith in
-    filled Entry noEntry 128 (λ (k : ℕ). startWith (s .t1) (s .bytes .now) (s .t3) k) (l .out) (l .inv .1 .0) (rw e at (l .inv .1 .1))
+returns c = made-all (c .before .loop .inv) (omega arith)
 
 pub ends-spec : {M : Type 1} → statement M
-ends-spec = tie.close (tie.spec Inv-loop μ-loop infeasible-requires loop-holds mul-f array-copy-out-f mul-q0 mul-q0-2 array-copy-out-q0 mul-q1 add-q1 mul-q1-2 array-copy-out-q1 of-parity-requires of-parity-requires-2 mul-end-start element-copy-out-end-start mul-end-start-2 add-end-start element-copy-out-end-start-2 end-start-requires mul-out array-set-from-out add-i loop-less loop-again returns)
+ends-spec =
+    tie.close
+    (tie.spec Inv-loop μ-loop infeasible-requires loop-holds mul-f array-copy-out-f mul-q0 mul-q0-2 array-copy-out-q0 mul-q1 add-q1 mul-q1-2
+    array-copy-out-q1 of-parity-requires of-parity-requires-2 mul-end-start element-copy-out-end-start mul-end-start-2 add-end-start
+    element-copy-out-end-start-2 end-start-requires mul-out array-set-from-out add-i loop-less loop-again returns)

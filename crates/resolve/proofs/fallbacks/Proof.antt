@@ -31,7 +31,16 @@ fallbacks-from-requires : tie.Need-fallbacks-from-requires
 fallbacks-from-requires c κs = search needs
 
 returns : tie.Need-returns
-returns c = let s = c .before .before .before .before .before .before .before .args in all-fallbacks (s .t) (s .kind % 2) (s .p % 2) (omega arith) (omega arith) (c .before .before .before .before .before .before .fallback-bytes .ensures) (c .before .before .before .before .before .fallback-keys .ensures) (c .before .before .before .before .fallback-points .ensures) (c .fallbacks-from .ensures)
+returns c =
+    let points = c .before .before .before .before in
+    let keys = points .before in
+    let bytes = keys .before in
+    let s = bytes .before .args in
+    all-fallbacks (s .t) (s .kind % 2) (s .p % 2) (omega arith) (omega arith) (bytes .fallback-bytes .ensures) (keys .fallback-keys .ensures)
+    (points .fallback-points .ensures) (c .fallbacks-from .ensures)
 
 pub fallbacks-spec : {M : Type 1} → statement M
-fallbacks-spec = tie.close (tie.spec fallback-bytes-requires fallback-keys-requires fallback-points-requires mul-fallbacks-from add-fallbacks-from mul-fallbacks-from-2 cast-fallbacks-from fallbacks-from-requires returns)
+fallbacks-spec =
+    tie.close
+    (tie.spec fallback-bytes-requires fallback-keys-requires fallback-points-requires mul-fallbacks-from add-fallbacks-from mul-fallbacks-from-2
+    cast-fallbacks-from fallbacks-from-requires returns)

@@ -32,16 +32,35 @@ mid-of-requires : tie.Need-mid-of-requires
 mid-of-requires c κs = search needs
 
 returns : tie.Need-returns
-returns c = let s = c .before .before .before .before .before .before .before .args in again (solveIn (s .regret .now) (s .dist .now) (s .weight .now) (s .rank .now) (s .odd .now) (s .up .now)) (s .c) (s .d) (s .n) (c .before .before .before .before .before .before .mixed-bound .ensures) (c .before .before .before .before .before .solve .ensures) (c .before .before .before .enum-told .given .1) (c .before .solve2 .ensures) (c .mid-of .ensures)
+returns c =
+    let t = c .before .before .before in
+    let f = t .before .before in
+    let s = f .before .before .args in
+    again (solveIn (s .regret .now) (s .dist .now) (s .weight .now) (s .rank .now) (s .odd .now) (s .up .now)) (s .c) (s .d) (s .n)
+    (f .before .mixed-bound .ensures) (f .solve .ensures) (t .enum-told .given .1) (c .before .solve2 .ensures) (c .mid-of .ensures)
 
 infeasible-requires : tie.Need-infeasible-requires
 infeasible-requires c κs = search needs
 
 returns-2 : tie.Need-returns-2
-returns-2 c = let s = c .before .before .before .before .before .args in at-once (solveIn (s .regret .now) (s .dist .now) (s .weight .now) (s .rank .now) (s .odd .now) (s .up .now)) (s .c) (s .d) (s .n) (c .before .before .before .before .mixed-bound .ensures) (c .before .before .before .solve .ensures) (c .before .f .given .1)
+returns-2 c =
+    let f = c .before .before .before in
+    let s = f .before .before .args in
+    at-once (solveIn (s .regret .now) (s .dist .now) (s .weight .now) (s .rank .now) (s .odd .now) (s .up .now)) (s .c) (s .d) (s .n)
+    (f .before .mixed-bound .ensures) (f .solve .ensures) (c .before .f .given .1)
 
 returns-3 : tie.Need-returns-3
-returns-3 c = let s = c .before .before .before .before .before .before .args in none-left (solveIn (s .regret .now) (s .dist .now) (s .weight .now) (s .rank .now) (s .odd .now) (s .up .now)) (s .c) (s .d) (s .n) (c .before .before .before .before .before .mixed-bound .ensures) (c .before .before .before .before .solve .ensures) (c .before .before .enum-told .given .1) (solve-eight (s .regret .now) (s .dist .now) (s .weight .now) (s .rank .now) (s .odd .now) (s .up .now) (s .c) (s .d) (tables .mixed) (s .n) (omega arith)) (c .infeasible .ensures)
+returns-3 c =
+    let t = c .before .before in
+    let f = t .before .before in
+    let s = f .before .before .args in
+    none-left (solveIn (s .regret .now) (s .dist .now) (s .weight .now) (s .rank .now) (s .odd .now) (s .up .now)) (s .c) (s .d) (s .n)
+    (f .before .mixed-bound .ensures) (f .solve .ensures) (t .enum-told .given .1)
+    (solve-eight (s .regret .now) (s .dist .now) (s .weight .now) (s .rank .now) (s .odd .now) (s .up .now) (s .c) (s .d) (tables .mixed) (s .n)
+    (omega arith)) (c .infeasible .ensures)
 
 pub mid-resolve-spec : {M : Type 1} → statement M
-mid-resolve-spec = tie.close (tie.spec mixed-bound-requires cast-solve solve-requires enum-known-f enum-told cast-solve-2 solve-requires-2 mid-of-requires returns infeasible-requires returns-2 returns-3)
+mid-resolve-spec =
+    tie.close
+    (tie.spec mixed-bound-requires cast-solve solve-requires enum-known-f enum-told cast-solve-2 solve-requires-2 mid-of-requires returns
+    infeasible-requires returns-2 returns-3)

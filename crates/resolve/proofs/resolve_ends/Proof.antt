@@ -1,23 +1,17 @@
 -- `resolve::resolve_ends` meets its contract. The invariant: the first i entries are made. Assumes nothing.
-use borrow.Author.Needs.{needs}
+use Prim.Native.Nat.{_-_}
 use native.Mathlib.Omega.{arith}
-use Prim.Native.Nat.{ℕ, _≤_, _<_, _-_}
-use mathlib.Core.Path.{_≡_}
-use lib.ListN.{length, getD, length-set}
-use borrow.Author.Count.{below-none}
-use Rattle.laws.specs.Lists.{filled, filled-more}
-use Rattle.search.specs.declared.Entry.{Entry}
-use Rattle.search.specs.Join.{entAt, noEntry}
-use lib.Ieee.{lt, nan}
-use Rattle.solve.specs.Flat.{solveIn}
+use borrow.Author.Needs.{needs}
 use Rattle.search.specs.Tables.{tables}
-use Rattle.search.specs.Parity.{closed}
-use Rattle.resolve.specs.Flat.{endWith}
+use Rattle.solve.specs.Flat.{solveIn}
+use Rattle.resolve.specs.Flat.{endWith, closedWith}
+use Rattle.resolve.proofs.Made.{Made, made-none, made-more, made-all}
 use Rattle.resolve.proofs.resolve_ends.Statement.{statement}
 use Rattle.resolve.proofs.resolve_ends.Tie as tie
 
 abbrev Inv-loop : tie.InvT-loop
-Inv-loop regret dist weight rank odd up bytes u n fall e b out₀ i₀ out i = (i ≤ 128) × ((length out ≡ 128) × ((k : ℕ) → k < i → entAt out k ≡ closed (entAt e k) (lt (getD b k nan) u) (endWith tables (solveIn regret dist weight rank odd up) bytes fall n k)))
+Inv-loop regret dist weight rank odd up bytes u n fall e b out₀ i₀ out i =
+    Made 128 i (closedWith e b u (endWith tables (solveIn regret dist weight rank odd up) bytes fall n)) out
 
 abbrev μ-loop : tie.MeasureT-loop
 μ-loop regret dist weight rank odd up bytes u n fall e b out₀ i₀ out i = 128 - i
@@ -26,7 +20,7 @@ infeasible-requires : tie.Need-infeasible-requires Inv-loop μ-loop
 infeasible-requires c κs = search needs
 
 loop-holds : tie.Need-loop-holds Inv-loop μ-loop
-loop-holds c = (omega arith, (search needs, below-none _))
+loop-holds c = made-none 128 _ _ (search needs)
 
 mul-first : tie.Need-mul-first Inv-loop μ-loop
 mul-first c = search needs
@@ -78,20 +72,13 @@ loop-less c = search needs
 
 loop-again : tie.Need-loop-again Inv-loop μ-loop
 unfolding endWith
-loop-again c = let l = c .before .before .before .before .before .before .loop in
-    let s = c .before .before .before .before .before .before .before .before .args in (
-      omega arith,
-      (
-        simp length-set (l .inv .1 .0),
-        filled-more Entry noEntry (λ (k : ℕ). closed (entAt (s .t9) k) (lt (getD (s .t10) k nan) (s .u)) (endWith tables (solveIn (s .regret .now) (s .dist .now) (s .weight .now) (s .rank .now) (s .odd .now) (s .up .now)) (s .bytes .now) (s .t8) (s .n) k)) (l .out) (l .i) _ (omega arith) (c .end-closed .ensures) (l .inv .1 .1),
-      ),
-    )
+loop-again c = made-more (c .before .before .before .before .before .before .loop .inv) (omega arith) (c .end-closed .ensures)
 
 returns : tie.Need-returns Inv-loop μ-loop
-returns c = let l = c .before .loop in
-    let s = c .before .before .before .args in
-    let e : l .i ≡ 128 = omega arith in
-    filled Entry noEntry 128 (λ (k : ℕ). closed (entAt (s .t9) k) (lt (getD (s .t10) k nan) (s .u)) (endWith tables (solveIn (s .regret .now) (s .dist .now) (s .weight .now) (s .rank .now) (s .odd .now) (s .up .now)) (s .bytes .now) (s .t8) (s .n) k)) (l .out) (l .inv .1 .0) (rw e at (l .inv .1 .1))
+returns c = made-all (c .before .loop .inv) (omega arith)
 
 pub resolve-ends-spec : {M : Type 1} → statement M
-resolve-ends-spec = tie.close (tie.spec Inv-loop μ-loop infeasible-requires loop-holds mul-first array-copy-out-first mul-x array-copy-out-x mul-c0 element-copy-out-c0 mul-c1 add-c1 element-copy-out-c1 mul-end-closed array-read-end-closed end-closed-requires mul-out array-set-from-out add-i loop-less loop-again returns)
+resolve-ends-spec =
+    tie.close
+    (tie.spec Inv-loop μ-loop infeasible-requires loop-holds mul-first array-copy-out-first mul-x array-copy-out-x mul-c0 element-copy-out-c0 mul-c1
+    add-c1 element-copy-out-c1 mul-end-closed array-read-end-closed end-closed-requires mul-out array-set-from-out add-i loop-less loop-again returns)

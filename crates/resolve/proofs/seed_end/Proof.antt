@@ -49,7 +49,13 @@ array-set-from-out c = search needs
 
 returns-3 : tie.Need-returns-3
 unfolding endWith
-returns-3 c = let s = c .before .before .before .before .before .before .before .args in resolved (s .t9) (s .i) (c .before .before .before .before .if2 .left) (c .end-resolve .ensures)
+returns-3 c =
+    let b = c .before .before .before .before in
+    let s = b .before .before .before .args in
+    resolved (s .t9) (s .i) (b .if2 .left) (c .end-resolve .ensures)
 
 pub seed-end-spec : {M : Type 1} → statement M
-seed-end-spec = tie.close (tie.spec returns mul-x array-copy-out-x returns-2 mul-f array-copy-out-f mul-c0 element-copy-out-c0 mul-c1 add-c1 element-copy-out-c1 end-resolve-requires mul-out array-set-from-out returns-3)
+seed-end-spec =
+    tie.close
+    (tie.spec returns mul-x array-copy-out-x returns-2 mul-f array-copy-out-f mul-c0 element-copy-out-c0 mul-c1 add-c1 element-copy-out-c1
+    end-resolve-requires mul-out array-set-from-out returns-3)

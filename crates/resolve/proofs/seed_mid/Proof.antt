@@ -29,7 +29,12 @@ array-set-from-out : tie.Need-array-set-from-out
 array-set-from-out c = search needs
 
 returns-3 : tie.Need-returns-3
-returns-3 c = let s = c .before .before .before .before .before .args in resolved (s .t8) (s .m) (c .before .before .if2 .left) (c .mid-resolve .ensures)
+returns-3 c =
+    let b = c .before .before in
+    let s = b .before .before .before .args in
+    resolved (s .t8) (s .m) (b .if2 .left) (c .mid-resolve .ensures)
 
 pub seed-mid-spec : {M : Type 1} → statement M
-seed-mid-spec = tie.close (tie.spec returns mul-x array-copy-out-x returns-2 element-copy-out-mid-resolve mid-resolve-requires mul-out array-set-from-out returns-3)
+seed-mid-spec =
+    tie.close
+    (tie.spec returns mul-x array-copy-out-x returns-2 element-copy-out-mid-resolve mid-resolve-requires mul-out array-set-from-out returns-3)

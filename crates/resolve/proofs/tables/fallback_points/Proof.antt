@@ -1,4 +1,4 @@
--- `resolve::tables::fallback_points` meets its contract: the sections of the bytes and packed rows are computed, and are the constant. Assumes nothing.
+-- `resolve::tables::fallback_points` meets its contract: the computed sections of the bytes and packed rows are the constant. Assumes nothing.
 use mathlib.Core.Path.{refl}
 use Rattle.rank.specs.Coord.{valOf}
 use Rattle.search.specs.Tables.{fallbackBytes, fallbackKeys}
