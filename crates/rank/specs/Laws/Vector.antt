@@ -1,4 +1,4 @@
--- Laws of rank vectors: ranks below a number, cost, what a bound says, and packing. Assumes nothing.
+-- Laws of rank vectors: ranks below a number, cost, bounds, the order, packing, and what the calls answer in range. Assumes nothing.
 use mathlib.Core.Path.{_≡_, refl, ap, ap₂, sym, subst, _∙_}
 use mathlib.Core.Logic.{_⊎_, inl, inr}
 use mathlib.Core.Bool.{Bool, true, false, cond}
