@@ -1,6 +1,5 @@
--- Laws of rank vectors: packing and what a bound says. Assumes nothing.
+-- Laws of rank vectors: ranks packed and read back. Assumes nothing.
 use mathlib.Core.Path.{_≡_, refl, ap, ap₂, sym, _∙_}
-use mathlib.Core.Logic.{_⊎_}
 use mathlib.Core.List.{List, [], _∷_, map}
 use Prim.Native.Nat.{ℕ, zero, suc, _+_, _*_, _/_, _%_, _^_, _<_}
 use native.Mathlib.Nat.{div-one, mod-eq-of-lt, not-suc-le-zero, le-of-suc-le-suc, mul-suc}
@@ -8,9 +7,8 @@ use native.Mathlib.Omega.{arith}
 use lib.Pow.{shr-shr, mod-pow-add}
 use lib.Dec.{T, ltb, ltb→lt, lt→ltb}
 use lib.ListN.{length, getD}
-use Rattle.laws.specs.Tests.{and-left, and-right, and-in, Says}
-use Rattle.laws.specs.Order.{lexLe, LexLe, pick3-says, lexLe-says}
-use Rattle.rank.specs.Vector.{ranksBelow, cost, pack, unpack, within}
+use Rattle.laws.specs.Tests.{and-left, and-right, and-in}
+use Rattle.rank.specs.Vector.{ranksBelow, pack, unpack}
 use Rattle.rank.specs.Answers.{packedOf}
 
 -- of ranks below b the first is below b, and so are the rest
@@ -21,10 +19,6 @@ rank-first b r v t = ltb→lt r b (and-left (ltb r b) (ranksBelow b v) t)
 pub rank-rest : (b r : ℕ) (v : List ℕ) → T (ranksBelow b (r ∷ v)) → T (ranksBelow b v)
 unfolding ranksBelow
 rank-rest b r v t = and-right (ltb r b) (ranksBelow b v) t
-
--- ---- a bound: cost below C, or cost C and at most the cut, coordinate 0 most significant
-pub within-says : (C : ℕ) (cut v : List ℕ) → Says (within C cut v) ((cost v < C) ⊎ ((cost v ≡ C) × LexLe v cut))
-within-says C cut v = pick3-says (cost v) C (lexLe v cut) (LexLe v cut) (lexLe-says v cut)
 
 -- ---- packed ranks
 -- rank j stands at bits 4j to 4j + 3
