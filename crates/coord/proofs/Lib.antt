@@ -1,3 +1,4 @@
+pub mod Differences
 pub mod Numbers
 pub mod Marks
 pub mod Filled

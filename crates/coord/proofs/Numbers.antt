@@ -5,9 +5,10 @@ use native.Mathlib.Omega.{arith}
 use lib.IntN.{ℤ, pos, negsuc, negℤ, natAbs, subℕ, _+ℤ_}
 use mir.Syntax.{w32}
 use mir.Val.{SFits}
-use Rattle.laws.specs.Whole.{sub-below, sub-above, sub-by, sub-up, sub-down}
+use Rattle.laws.specs.Whole.{sub-by}
 use Rattle.search.specs.Record.{member, slotK}
 use Rattle.coord.specs.Inner.{unbiased}
+use Rattle.coord.proofs.Differences.{sub-below, sub-above, sub-up, sub-down}
 
 -- ---- the member o + 4k, by the sign of k
 pub member-neg : (o n : ℕ) → o < 4 → member o (negsuc n) ≡ negsuc (4 * n + 3 - o)

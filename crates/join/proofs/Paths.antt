@@ -3,9 +3,9 @@ use mathlib.Core.Path.{_≡_, refl, sym, _∙_, ap, ap₂}
 use mathlib.Core.Bool.{Bool, true, false, cond, _&&_}
 use mathlib.Core.List.{List}
 use Prim.Native.Nat.{ℕ, suc, _/_, _%_, _<_}
-use lib.ListN.{getD, set, replicate}
+use lib.ListN.{getD, set, replicate, length-replicate, getD-replicate}
 use lib.Ieee.{Float, nan, binary64, add, lt, le}
-use Rattle.laws.specs.Lists.{tab, replicate-tab}
+use Rattle.laws.specs.Lists.{tab, filled}
 use Rattle.search.specs.declared.Way.{Way}
 use Rattle.search.specs.declared.Bounds.{Bounds}
 use Rattle.search.specs.Tables.{tables}
@@ -65,7 +65,8 @@ boundsBy u b1 b2 b3 = record { u = u; b1 = b1; b2 = b2; b3 = b3 }
 
 -- before the first path
 top-tab : (n : ℕ) {top : Float} → top ≡ infinity → replicate n top ≡ tab (λ (i : ℕ). infinity) n
-top-tab n q = rw q (replicate-tab Float infinity n)
+top-tab n q =
+    rw q (filled Float nan n (λ (i : ℕ). infinity) (replicate n infinity) (length-replicate n infinity) (λ k h. getD-replicate n k infinity nan h))
 
 bounds-eq : {u : Float} {b1 b2 b3 c1 c2 c3 : List Float} → b1 ≡ c1 → b2 ≡ c2 → b3 ≡ c3 → boundsBy u b1 b2 b3 ≡ boundsBy u c1 c2 c3
 bounds-eq q1 q2 q3 = rw (q1, q2, q3)

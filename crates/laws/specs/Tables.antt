@@ -1,14 +1,12 @@
 -- Tables: a test that is computed over a whole list of numbers, and what it says of each entry. Assumes nothing.
-use mathlib.Core.Path.{_∙_, subst, sym, ap}
+use mathlib.Core.Path.{_∙_, subst, sym}
 use mathlib.Core.Bool.{Bool, true, false, _&&_}
 use mathlib.Core.List.{List, [], _∷_}
 use Prim.Native.Nat.{ℕ, zero, suc, _+_, _<_}
 use native.Mathlib.Nat.{add-zero, zero-add, add-suc, suc-add, le-of-suc-le-suc, not-suc-le-zero, lt-trans}
-use native.Mathlib.Omega.{arith}
-use lib.Dec.{T, ltb, eqb, ltb→lt, eqb→eq}
+use lib.Dec.{T, ltb, ltb→lt}
 use lib.ListN.{length, getD}
 use Rattle.laws.specs.Tests.{and-left, and-right}
-use Rattle.laws.specs.Lists.{seek, Distinct}
 
 -- ---- the test passes at each entry of the list and its place, counted from i
 abbrev pub every : (ℕ → ℕ → Bool) → ℕ → List ℕ → Bool
@@ -64,46 +62,3 @@ module _ (f : ℕ → ℕ) where
   asc-lt p (x ∷ xs) t zero (suc j) h k = above (f x) xs (and-right (ltb p (f x)) (ascBy (f x) xs) t) j (le-of-suc-le-suc k)
   asc-lt p (x ∷ xs) t (suc i) (suc j) h k =
       asc-lt (f x) xs (and-right (ltb p (f x)) (ascBy (f x) xs) t) i j (le-of-suc-le-suc h) (le-of-suc-le-suc k)
-
--- ---- no entry stands twice: each is found at its own place, or they ascend
-pub found-distinct : (xs : List ℕ) → T (every (λ (i x : ℕ). eqb (seek x xs) i) 0 xs) → Distinct xs
-found-distinct xs t i j h k e =
-    sym (eqb→eq (seek (getD xs i 0) xs) i (at (λ (m x : ℕ). eqb (seek x xs) m) xs t i h)) ∙ ap (λ (x : ℕ). seek x xs) e
-    ∙ eqb→eq (seek (getD xs j 0) xs) j (at (λ (m x : ℕ). eqb (seek x xs) m) xs t j k)
-
-pub up-distinct : (xs : List ℕ) → ((i j : ℕ) → i < j → j < length xs → getD xs i 0 < getD xs j 0) → Distinct xs
-up-distinct xs up i j h k e = omega (arith, before, after)
-  where
-    before : i < j → ⊥
-    before l = omega (arith, up i j l k)
-
-    after : j < i → ⊥
-    after l = omega (arith, up j i l h)
-
--- ---- along the list each entry stands before the next; where that is transitive, each stands before all that follow
-module _ (b : ℕ → ℕ → Bool) where
-  abbrev pub chainFrom : ℕ → List ℕ → Bool
-  chainFrom p [] = true
-  chainFrom p (x ∷ xs) = b p x && chainFrom x xs
-
-  abbrev pub chain : List ℕ → Bool
-  chain [] = true
-  chain (x ∷ xs) = chainFrom x xs
-
-  module _ (trans : (x y z : ℕ) → T (b x y) → T (b y z) → T (b x z)) where
-    follows : (p : ℕ) (xs : List ℕ) → T (chainFrom p xs) → (k : ℕ) → k < length xs → T (b p (getD xs k 0))
-    follows p [] t k h = absurd (not-suc-le-zero h)
-    follows p (x ∷ xs) t zero h = and-left (b p x) (chainFrom x xs) t
-    follows p (x ∷ xs) t (suc k) h =
-        trans p x (getD xs k 0) (and-left (b p x) (chainFrom x xs) t)
-        (follows x xs (and-right (b p x) (chainFrom x xs) t) k (le-of-suc-le-suc h))
-
-    tail : (p : ℕ) (xs : List ℕ) → T (chainFrom p xs) → T (chain xs)
-    tail p [] t = tt
-    tail p (x ∷ xs) t = and-right (b p x) (chainFrom x xs) t
-
-    pub chain-at : (xs : List ℕ) → T (chain xs) → (i j : ℕ) → i < j → j < length xs → T (b (getD xs i 0) (getD xs j 0))
-    chain-at [] t i j h k = absurd (not-suc-le-zero k)
-    chain-at (x ∷ xs) t i zero h k = absurd (not-suc-le-zero h)
-    chain-at (x ∷ xs) t zero (suc j) h k = follows x xs t j (le-of-suc-le-suc k)
-    chain-at (x ∷ xs) t (suc i) (suc j) h k = chain-at xs (tail x xs t) i j (le-of-suc-le-suc h) (le-of-suc-le-suc k)

@@ -1,7 +1,7 @@
--- Tests: what a computed Bool says, joined tests, and a test at every number below n.
--- `T b` (lib.Dec) holds exactly where b is true. Assumes nothing.
+-- Tests: joined tests, what a computed Bool says, a test at every number below n, and a choice by a test. `T b` (lib.Dec) holds exactly
+-- where b is true. Assumes nothing.
 use mathlib.Core.Path.{_≡_, refl, sym, subst}
-use mathlib.Core.Bool.{Bool, true, false, cond, _&&_, _||_, Bool·beq}
+use mathlib.Core.Bool.{Bool, true, false, cond, _&&_, _||_}
 use mathlib.Core.Logic.{_⊎_, inl, inr}
 use Prim.Native.Nat.{ℕ, zero, suc, _<_}
 use native.Mathlib.Nat.{not-suc-le-zero, le-of-suc-le-suc}
@@ -58,12 +58,6 @@ pub modus : (b c : Bool) → T b → T (implies b c) → T c
 modus true c h t = t
 modus false c h t = absurd h
 
-pub beq-eq : (a b : Bool) → T (Bool·beq a b) → a ≡ b
-beq-eq true true t = refl
-beq-eq true false t = absurd t
-beq-eq false true t = absurd t
-beq-eq false false t = refl
-
 -- ---- a test and its truth
 pub is-true : (b : Bool) → T b → b ≡ true
 is-true true t = refl
@@ -78,16 +72,6 @@ true-is b e = subst T (sym e) tt
 
 pub eq→eqb : (a b : ℕ) → a ≡ b → T (eqb a b)
 eq→eqb a b e = subst (λ (x : ℕ). T (eqb a x)) e (eqb-refl a)
-
--- ---- a Bool that says whether P holds
-unfoldable pub Says : Bool → Type 0 → Type 0
-Says true P = P
-Says false P = P → ⊥
-
-pub says-by : (b : Bool) (P : Type 0) → (b ≡ true → P) → (b ≡ false → P → ⊥) → Says b P
-unfolding Says
-says-by true P p q = p refl
-says-by false P p q = q refl
 
 -- ---- the test passes at 0, 1, .., n - 1
 abbrev pub upto : ℕ → (ℕ → Bool) → Bool

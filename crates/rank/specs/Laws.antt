@@ -1,5 +1,6 @@
 pub mod RankOrder
 pub mod Coord
 pub mod Vector
+pub mod Bound
 pub mod Section
 pub mod Lookup

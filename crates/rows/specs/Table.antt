@@ -5,7 +5,7 @@ use mathlib.Core.List.{List, [], _∷_}
 use Prim.Native.Nat.{ℕ, zero, suc, _+_, _*_, _-_, _/_, _%_, _<_}
 use lib.Dec.{ltb}
 use lib.ListN.{getD}
-use Rattle.laws.specs.Lists.{standsAt}
+use Rattle.laws.specs.Lists.{seek}
 use Rattle.rank.specs.Vector.{ranksBelow, pack, unpack}
 use Rattle.rows.specs.Rows.{rows}
 use Rattle.rows.specs.declared.Seated.{Seated}
@@ -26,7 +26,7 @@ maxRank = 4
 -- ---- where a vector stands in the table
 -- the number of the row whose ranks are packed in w, 0 to 4095, or 4096 where no row is w
 unfoldable pub findOf : ℕ → ℕ
-findOf w = standsAt w rows
+findOf w = seek w rows
 
 -- the same for a vector of any ranks. Packing has room for four bits a rank, so a rank above the largest decides first.
 unfoldable pub positionOf : List ℕ → ℕ

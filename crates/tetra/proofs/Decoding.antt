@@ -5,8 +5,8 @@ use Prim.Native.Nat.{ℕ, zero, suc, _+_, _*_, _-_, _/_, _%_, _^_, _<_, _≤_}
 use native.Mathlib.Nat.{pow-suc, mul-assoc, mul-comm}
 use native.Mathlib.Omega.{arith}
 use lib.IntN.{ℤ, pos}
-use lib.ListN.{length, getD, length-append}
-use Rattle.laws.specs.Lists.{append-at, append-past}
+use lib.ListN.{length, getD, length-append, List·getD-append}
+use Rattle.laws.specs.Lists.{append-past}
 use Rattle.word.specs.Word.{Narrow}
 use Rattle.word.specs.declared.Fields.{Fields}
 use Rattle.rank.specs.Coord.{valOf}
@@ -25,7 +25,7 @@ module _ (a b c : List ℤ) (ea : length a ≡ 8) (eb : length b ≡ 8) (j : ℕ
   pub in-second : 8 ≤ j → j < 16 → getD (a ++ (b ++ c)) j (pos 0) ≡ getD b (j - 8) (pos 0)
   in-second h k =
       append-past ℤ (pos 0) a (b ++ c) j (omega arith) ∙ ap (λ (n : ℕ). getD (b ++ c) (j - n) (pos 0)) ea
-      ∙ append-at ℤ (pos 0) b c (j - 8) (omega arith)
+      ∙ List·getD-append b c (pos 0) (j - 8) (omega arith)
 
   pub in-third : 16 ≤ j → getD (a ++ (b ++ c)) j (pos 0) ≡ getD c (j - 16) (pos 0)
   in-third h =

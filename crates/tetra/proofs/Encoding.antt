@@ -140,7 +140,7 @@ module _ (y : List ℤ) (size : length y ≡ 24) where
       codeword : Codeword (bitsOf (trio y))
       codeword = label-code (bitsOf (trio y)) (subst (λ (n : ℕ). n < 4096) ex lx)
 
-      pub has-word : HasWord y
+      has-word : HasWord y
       has-word =
           record {
             point =

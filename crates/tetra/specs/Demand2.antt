@@ -95,7 +95,7 @@ pub refuses : (y : List ℤ) → length y ≡ 24 → (HasWord y → ⊥) → enc
 refuses y e n = encode-out y (λ t. n (encodable-has y e t))
 
 -- a point has a word or it has none
-pub has-or-not : (y : List ℤ) → length y ≡ 24 → Dec (HasWord y)
+has-or-not : (y : List ℤ) → length y ≡ 24 → Dec (HasWord y)
 has-or-not y e = go (encodable y) refl
   where
     go : (b : Bool) → encodable y ≡ b → Dec (HasWord y)

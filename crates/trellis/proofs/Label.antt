@@ -16,11 +16,14 @@ pub packed : (s8 b1 b2 b3 : ℕ)
     → bitOr (bitOr (bitOr (bitAnd s8 63) (bitAnd b1 1 * 2 ^ 6 % 2 ^ 32)) (bitAnd b2 15 * 2 ^ 7 % 2 ^ 32)) (bitAnd b3 1 * 2 ^ 11 % 2 ^ 32)
     ≡ inputOf s8 b1 b2 b3
 packed s8 b1 b2 b3 =
+    let x1 = bitAnd b1 1 * 2 ^ 6 % 2 ^ 32 in
+    let x2 = bitAnd b2 15 * 2 ^ 7 % 2 ^ 32 in
+    let x3 = bitAnd b3 1 * 2 ^ 11 % 2 ^ 32 in
     let m = b1 % 2 * 64 + s8 % 64 in
     let n = b2 % 16 * 128 + m in
-    ap (λ (z : ℕ). bitOr (bitOr (bitOr z (bitAnd b1 1 * 2 ^ 6 % 2 ^ 32)) (bitAnd b2 15 * 2 ^ 7 % 2 ^ 32)) (bitAnd b3 1 * 2 ^ 11 % 2 ^ 32)) (and-mask s8 6)
-    ∙ ap (λ (z : ℕ). bitOr (bitOr z (bitAnd b2 15 * 2 ^ 7 % 2 ^ 32)) (bitAnd b3 1 * 2 ^ 11 % 2 ^ 32)) (lay (s8 % 64) b1 1 6 (omega arith) (omega arith))
-    ∙ ap (λ (z : ℕ). bitOr z (bitAnd b3 1 * 2 ^ 11 % 2 ^ 32)) (lay m b2 4 7 (omega arith) (omega arith))
+    ap (λ (z : ℕ). bitOr (bitOr (bitOr z x1) x2) x3) (and-mask s8 6)
+    ∙ ap (λ (z : ℕ). bitOr (bitOr z x2) x3) (lay (s8 % 64) b1 1 6 (omega arith) (omega arith))
+    ∙ ap (λ (z : ℕ). bitOr z x3) (lay m b2 4 7 (omega arith) (omega arith))
     ∙ lay n b3 1 11 (omega arith) (omega arith)
     ∙ turn (s8 % 64) (b1 % 2) (b2 % 16) (b3 % 2)
   where

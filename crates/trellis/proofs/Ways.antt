@@ -1,21 +1,22 @@
 -- What the functions of the way back find, over plain numbers. Assumes nothing.
-use mathlib.Core.Path.{_≡_, _∙_, sym, ap, refl}
+use mathlib.Core.Path.{_≡_, _∙_, sym, ap}
 use mathlib.Core.Bool.{Bool}
-use mathlib.Core.List.{List, [], _∷_}
+use mathlib.Core.List.{List}
 use Prim.Native.Nat.{ℕ, zero, suc, _/_, _%_, _<_, _≤_}
 use native.Mathlib.Nat.{mod-eq-of-lt}
 use native.Mathlib.Omega.{arith}
 use lib.Dec.{T, eqb, eqb→eq}
-use lib.ListN.{length, getD}
+use lib.ListN.{getD}
 use Rattle.laws.specs.Tests.{upto, below2}
-use Rattle.laws.specs.Tables.{every, at}
-use Rattle.laws.specs.Lists.{lookUp, look-at, look-out, look-none}
+use Rattle.laws.specs.Lists.{tab, tab-at}
 use Rattle.trellis.specs.Code.{wordOf, columns}
 use Rattle.trellis.specs.Tables.{prefixes, middles}
-use Rattle.trellis.specs.Trellis.{middleOf, branchOf, suffixOf, openingOf, passageOf, closingOf, labelOf}
+use Rattle.trellis.specs.Trellis.{middleOf, branchOf, suffixOf, openingOf, passageOf, closingOf, lookUp, labelOf}
 use Rattle.trellis.specs.Laws.Code.{backColumns, back-at, back-lt}
 use Rattle.trellis.specs.Laws.Path.{prefixes-length}
-use Rattle.trellis.specs.Laws.Back.{prefixes-distinct, passage-by, passage-iff, passage-none, closing-by, closing-iff, closing-none, label-iff, label-none}
+use Rattle.trellis.specs.Laws.Look.{look-at, look-out, look-none}
+use Rattle.trellis.specs.Laws.Back.{prefixes-distinct, passage-by, passage-iff, passage-none, closing-by, closing-iff, closing-none}
+use Rattle.trellis.specs.Laws.Back.{label-iff, label-none}
 use Rattle.trellis.specs.declared.Edge.{Edge}
 use Rattle.trellis.specs.declared.Opening.{Opening}
 use Rattle.trellis.specs.declared.Opening.the-variants.{From, NoState}
@@ -23,39 +24,15 @@ use Rattle.trellis.specs.declared.Passage.the-variants.{Along, NoBranch}
 use Rattle.trellis.specs.declared.Closing.the-variants.{By, NoSuffix}
 
 -- ---- a prefix byte: the place of each byte among the prefixes, 255 where it stands nowhere
+abbrev placeOf : ℕ → ℕ
+placeOf c = lookUp (λ (k : ℕ). k) 255 prefixes c
+
 unfoldable pub prefixPlaces : List ℕ
-prefixPlaces =
-    0 ∷ 255 ∷ 255 ∷ 26 ∷ 255 ∷ 112 ∷ 106 ∷ 255 ∷ 255 ∷ 54 ∷ 44 ∷ 255 ∷ 70 ∷ 255 ∷ 255 ∷ 92 ∷
-    255 ∷ 76 ∷ 86 ∷ 255 ∷ 60 ∷ 255 ∷ 255 ∷ 38 ∷ 122 ∷ 255 ∷ 255 ∷ 96 ∷ 255 ∷ 10 ∷ 16 ∷ 255 ∷
-    255 ∷ 94 ∷ 68 ∷ 255 ∷ 46 ∷ 255 ∷ 255 ∷ 52 ∷ 104 ∷ 255 ∷ 255 ∷ 114 ∷ 255 ∷ 24 ∷ 2 ∷ 255 ∷
-    18 ∷ 255 ∷ 255 ∷ 8 ∷ 255 ∷ 98 ∷ 120 ∷ 255 ∷ 255 ∷ 36 ∷ 62 ∷ 255 ∷ 84 ∷ 255 ∷ 255 ∷ 78 ∷
-    255 ∷ 100 ∷ 126 ∷ 255 ∷ 20 ∷ 255 ∷ 255 ∷ 14 ∷ 82 ∷ 255 ∷ 255 ∷ 72 ∷ 255 ∷ 34 ∷ 56 ∷ 255 ∷
-    40 ∷ 255 ∷ 255 ∷ 50 ∷ 255 ∷ 88 ∷ 66 ∷ 255 ∷ 255 ∷ 30 ∷ 4 ∷ 255 ∷ 110 ∷ 255 ∷ 255 ∷ 116 ∷
-    58 ∷ 255 ∷ 255 ∷ 32 ∷ 255 ∷ 74 ∷ 80 ∷ 255 ∷ 255 ∷ 12 ∷ 22 ∷ 255 ∷ 124 ∷ 255 ∷ 255 ∷ 102 ∷
-    255 ∷ 118 ∷ 108 ∷ 255 ∷ 6 ∷ 255 ∷ 255 ∷ 28 ∷ 64 ∷ 255 ∷ 255 ∷ 90 ∷ 255 ∷ 48 ∷ 42 ∷ 255 ∷
-    255 ∷ 43 ∷ 49 ∷ 255 ∷ 91 ∷ 255 ∷ 255 ∷ 65 ∷ 29 ∷ 255 ∷ 255 ∷ 7 ∷ 255 ∷ 109 ∷ 119 ∷ 255 ∷
-    103 ∷ 255 ∷ 255 ∷ 125 ∷ 255 ∷ 23 ∷ 13 ∷ 255 ∷ 255 ∷ 81 ∷ 75 ∷ 255 ∷ 33 ∷ 255 ∷ 255 ∷ 59 ∷
-    117 ∷ 255 ∷ 255 ∷ 111 ∷ 255 ∷ 5 ∷ 31 ∷ 255 ∷ 255 ∷ 67 ∷ 89 ∷ 255 ∷ 51 ∷ 255 ∷ 255 ∷ 41 ∷
-    255 ∷ 57 ∷ 35 ∷ 255 ∷ 73 ∷ 255 ∷ 255 ∷ 83 ∷ 15 ∷ 255 ∷ 255 ∷ 21 ∷ 255 ∷ 127 ∷ 101 ∷ 255 ∷
-    79 ∷ 255 ∷ 255 ∷ 85 ∷ 255 ∷ 63 ∷ 37 ∷ 255 ∷ 255 ∷ 121 ∷ 99 ∷ 255 ∷ 9 ∷ 255 ∷ 255 ∷ 19 ∷
-    255 ∷ 3 ∷ 25 ∷ 255 ∷ 115 ∷ 255 ∷ 255 ∷ 105 ∷ 53 ∷ 255 ∷ 255 ∷ 47 ∷ 255 ∷ 69 ∷ 95 ∷ 255 ∷
-    255 ∷ 17 ∷ 11 ∷ 255 ∷ 97 ∷ 255 ∷ 255 ∷ 123 ∷ 39 ∷ 255 ∷ 255 ∷ 61 ∷ 255 ∷ 87 ∷ 77 ∷ 255 ∷
-    93 ∷ 255 ∷ 255 ∷ 71 ∷ 255 ∷ 45 ∷ 55 ∷ 255 ∷ 255 ∷ 107 ∷ 113 ∷ 255 ∷ 27 ∷ 255 ∷ 255 ∷ 1 ∷ []
+prefixPlaces = tab placeOf 256
 
-placed : ℕ → ℕ → Bool
-placed c i = eqb i (lookUp (λ (k : ℕ). k) 255 prefixes c)
-
-all-placed : T (every placed 0 prefixPlaces)
-unfolding placed prefixPlaces prefixes
-all-placed = tt
-
-places-long : length prefixPlaces ≡ 256
+place-at : (c i : ℕ) → c < 256 → i ≡ getD prefixPlaces c 0 → placeOf c ≡ i
 unfolding prefixPlaces
-places-long = refl
-
-place-at : (c i : ℕ) → c < 256 → i ≡ getD prefixPlaces c 0 → lookUp (λ (k : ℕ). k) 255 prefixes c ≡ i
-unfolding placed
-place-at c i h e = sym (e ∙ eqb→eq (getD prefixPlaces c 0) _ (at placed prefixPlaces all-placed c (omega (arith, places-long))))
+place-at c i h e = sym (e ∙ tab-at ℕ 0 placeOf 256 c h)
 
 pub open-found : (c i : ℕ) → c < 256 → i ≡ getD prefixPlaces c 0 → (i ≡ 255 → ⊥) → From (i / 2) (i % 2) ≡ openingOf c
 unfolding openingOf

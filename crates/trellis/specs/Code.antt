@@ -2,7 +2,7 @@
 -- bytes of a codeword, lowest first, are its three sections. Assumes nothing.
 use mathlib.Core.Bool.{true, false}
 use mathlib.Core.List.{List, [], _∷_}
-use Prim.Native.Nat.{ℕ, zero, suc, _+_, _*_, _/_, _%_}
+use Prim.Native.Nat.{ℕ, _+_, _*_, _/_, _%_}
 use lib.Dec.{eqb}
 use lib.Bits.{bitXor}
 use Rattle.laws.specs.Lists.{tab}
@@ -41,12 +41,7 @@ second w = w / 256 % 256
 abbrev pub third : ℕ → ℕ
 third w = w / 65536
 
--- ---- weight: the set bits among the d low ones
-abbrev pub weight : ℕ → ℕ → ℕ
-weight zero w = 0
-weight (suc d) w = w % 2 + weight d (w / 2)
-
--- how often k stands in a list
+-- ---- how often k stands in a list
 abbrev pub tally : ℕ → List ℕ → ℕ
 tally k [] = 0
 tally k (n ∷ ns) = elim (eqb n k) [ true ↦ 1 | false ↦ 0 ] + tally k ns

@@ -1,8 +1,10 @@
+pub mod Xor
 pub mod Linear
 pub mod Words
 pub mod Code
 pub mod Path
 pub mod States
+pub mod Look
 pub mod Back
 pub mod StateBytes
 pub mod Trio

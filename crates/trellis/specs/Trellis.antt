@@ -1,9 +1,11 @@
 -- The trellis: the states of a codeword at the cuts after its first and its second section, the bytes by which a path runs through them, and
 -- the way back from bytes to a path. Assumes nothing.
+use mathlib.Core.Bool.{cond}
 use mathlib.Core.List.{List, [], _∷_}
 use Prim.Native.Nat.{ℕ, _+_, _*_, _/_, _%_}
-use lib.ListN.{getD, take, drop}
-use Rattle.laws.specs.Lists.{seek, lookUp}
+use lib.Dec.{ltb}
+use lib.ListN.{length, getD, take, drop}
+use Rattle.laws.specs.Lists.{seek}
 use Rattle.trellis.specs.Code.{codewords}
 use Rattle.trellis.specs.Tables.{prefixes, middles, nexts, suffixes}
 use Rattle.trellis.specs.declared.Edge.{Edge}
@@ -72,6 +74,10 @@ passageSays NoBranch = []
 abbrev pub closingSays : Closing → List ℕ
 closingSays (By b3) = b3 ∷ []
 closingSays NoSuffix = []
+
+-- what f says of the first place at which c stands; `none` where it stands nowhere
+abbrev pub lookUp : {A : Type 0} → (ℕ → A) → A → List ℕ → ℕ → A
+lookUp f none xs c = cond (ltb (seek c xs) (length xs)) (f (seek c xs)) none
 
 -- the state at cut 8 and the bit of a prefix byte: there are two prefixes to a state
 unfoldable pub openingOf : ℕ → Opening

@@ -36,7 +36,7 @@ fits-narrow f e =
       gain = ltb-true _ _ (gain .1);
     }
 
-pub narrow-fits : (f : Fields) → Narrow f → fits f ≡ true
+narrow-fits : (f : Fields) → Narrow f → fits f ≡ true
 narrow-fits f n =
     rw (
       lt-ltb _ _ (n .p),
@@ -81,7 +81,7 @@ split-narrow w =
       gain = cut-lt _ _ w;
     }
 
-pub join-lt : (f : Fields) → Narrow f → wordOf f < 2 ^ 48
+join-lt : (f : Fields) → Narrow f → wordOf f < 2 ^ 48
 join-lt f n = omega arith
 
 -- ---- join of a split: the low 48 bits
@@ -118,8 +118,8 @@ digit {m} {x} {y} ha hb e =
 -- the fields as digits, the lowest last
 nested : Fields → ℕ
 nested f =
-    ((((((((f .gain * 2 ^ 11 + f .i3) * 2 ^ 1 + f .b3) * 2 ^ 11 + f .i2) * 2 ^ 4 + f .b2) * 2 ^ 11 + f .i1) * 2 ^ 1 + f .b1) * 2 ^ 6 + f .s8) * 2 ^ 1 + f .r) * 2 ^ 1
-    + f .p
+    let above-i1 = (((f .gain * 2 ^ 11 + f .i3) * 2 ^ 1 + f .b3) * 2 ^ 11 + f .i2) * 2 ^ 4 + f .b2 in
+    ((((above-i1 * 2 ^ 11 + f .i1) * 2 ^ 1 + f .b1) * 2 ^ 6 + f .s8) * 2 ^ 1 + f .r) * 2 ^ 1 + f .p
 
 nested-word : (f : Fields) → nested f ≡ wordOf f
 unfolding nested

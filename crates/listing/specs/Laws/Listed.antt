@@ -8,12 +8,13 @@ use native.Mathlib.Omega.{arith}
 use lib.Dec.{T, ltb, eqb, ltb→lt, eqb→eq}
 use lib.ListN.{length, getD}
 use Rattle.laws.specs.Tests.{and-left, and-right}
-use Rattle.laws.specs.Tables.{every, at, chain, chain-at}
-use Rattle.laws.specs.Lists.{place-of}
-use Rattle.laws.specs.Order.{lexLt, lexLt-trans, lexLt-irrefl}
+use Rattle.laws.specs.Tables.{every, at}
+use Rattle.laws.specs.Order.{lexLt}
+use Rattle.rank.specs.Laws.Vector.{lexLt-trans}
 use Rattle.rank.specs.Vector.{cost, pack, unpack, ranksBelow}
 use Rattle.listing.specs.Listing.{grow, under, listing}
 use Rattle.listing.specs.Laws.Growth.{reach}
+use Rattle.listing.specs.Laws.InOrder.{lexLt-irrefl, chain, chain-at, place-of}
 
 -- ---- how many
 pub count : length listing ≡ 14674

@@ -5,10 +5,10 @@ use Prim.Native.Nat.{ℕ, _+_, _-_, _*_, _/_, _%_, _^_, _≤_, _<_}
 use native.Mathlib.Nat.{mod-lt, zero-lt-suc, mod-eq-of-lt}
 use native.Mathlib.Omega.{arith}
 use lib.Dec.{T}
-use lib.ListN.{getD, length, take, drop}
+use lib.ListN.{getD, length, take, drop, List·getD-append}
 use lib.Seq.{ext-getD}
 use lib.IntN.{ℤ, pos}
-use Rattle.laws.specs.Lists.{tab, tab-at, tab-length, append-at, append-past}
+use Rattle.laws.specs.Lists.{tab, tab-at, tab-length, append-past}
 use Rattle.laws.specs.Bits.{weight}
 use Rattle.laws.specs.Whole.{modZ}
 use Rattle.rank.specs.Coord.{valOf}
@@ -17,7 +17,6 @@ use Rattle.rank.specs.Laws.Vector.{unpack-at, below-up, class-ranks, middle-cla
 use Rattle.rank.specs.Section as section
 use Rattle.rank.specs.Laws.Section.{point-uniform, point-bits, point-ranks, point-length}
 use Rattle.trellis.specs.Code.{wordOf, columns, label}
-use Rattle.trellis.specs.Code as code
 use Rattle.trellis.specs.Laws.Code.{word-lt, bytes-even}
 use Rattle.trellis.specs.Tables.{prefixes, middles, nexts, suffixes}
 use Rattle.trellis.specs.Trellis.{prefixOf, middleOf, nextOf, suffixOf, s8Of, b1Of, b2Of, b3Of}
@@ -27,7 +26,7 @@ use Rattle.trellis.specs.Laws.Trio.{trio-fits}
 use Rattle.tetra.specs.Lattice.{trio, Codeword, sectionRanks, inOwnClass, HasWord}
 use Rattle.tetra.specs.Tetra.{natural}
 use Rattle.tetra.specs.Laws.Orders.{natural-length, natural-at, trio-natural, parity-natural}
-use Rattle.tetra.specs.Laws.Point.{weight-same, ranks-part, below-append, point-at}
+use Rattle.tetra.specs.Laws.Point.{ranks-part, below-append, point-at}
 use Rattle.tetra.specs.Laws.Word.{sum-classes}
 use Rattle.search.specs.declared.Entry.{Entry}
 use Rattle.search.specs.declared.Winner.{Winner}
@@ -121,16 +120,13 @@ module _ (p : ℕ) (P0 : p < 2) (e1 e2 e3 : Entry) (H : Through p e1 e2 e3) wher
 
   -- so each has an even number of set bits
   even1 : weight 8 (e1 .byte) % 2 ≡ 0
-  even1 = ap (λ (n : ℕ). n % 2) (weight-same 8 (e1 .byte)
-      ∙ ap (code.weight 8) (sym (first-at x ∙ ap₂ prefixOf (parts .0) (parts .1) ∙ path1))) ∙ bytes-even x .0
+  even1 = ap (λ (n : ℕ). weight 8 n % 2) (sym (first-at x ∙ ap₂ prefixOf (parts .0) (parts .1) ∙ path1)) ∙ bytes-even x .0
 
   even2 : weight 8 (e2 .byte) % 2 ≡ 0
-  even2 = ap (λ (n : ℕ). n % 2) (weight-same 8 (e2 .byte)
-      ∙ ap (code.weight 8) (sym (second-at x ∙ ap₂ middleOf (parts .0) (parts .2) ∙ path2))) ∙ bytes-even x .1
+  even2 = ap (λ (n : ℕ). weight 8 n % 2) (sym (second-at x ∙ ap₂ middleOf (parts .0) (parts .2) ∙ path2)) ∙ bytes-even x .1
 
   even3 : weight 8 (e3 .byte) % 2 ≡ 0
-  even3 = ap (λ (n : ℕ). n % 2) (weight-same 8 (e3 .byte)
-      ∙ ap (code.weight 8) (sym (third-at x ∙ ap₂ suffixOf (ap₂ nextOf (parts .0) (parts .2)) (parts .3) ∙ path3))) ∙ bytes-even x .2
+  even3 = ap (λ (n : ℕ). weight 8 n % 2) (sym (third-at x ∙ ap₂ suffixOf (ap₂ nextOf (parts .0) (parts .2)) (parts .3) ∙ path3)) ∙ bytes-even x .2
 
   -- ---- the three rows
   abbrev v1 : List ℕ
@@ -269,7 +265,7 @@ module _ (p : ℕ) (P0 : p < 2) (e1 e2 e3 : Entry) (H : Through p e1 e2 e3) wher
       all24 (λ j. getD z j (pos 0) ≡ three j)
       (λ j h. point-at p word ranks j (up8 h)
       ∙ coordinate-is j (e1 .byte) (e1 .key) (bitAt word j) (getD ranks j 0) (bit-a (e1 .byte) (e2 .byte) (e3 .byte) c1-lt j h) h
-      (append-at ℕ 0 v1 (v2 ++ v3) j h)
+      (List·getD-append v1 (v2 ++ v3) 0 j h)
       ∙ sym (glue1 (sectionAt p (e1 .byte) (e1 .key)) (sectionAt p (e2 .byte) (e2 .key)) (sectionAt p (e3 .byte) (e3 .key)) j h))
       (λ j h. point-at p word ranks (8 + j) (up16 h)
       ∙ coordinate-is j (e2 .byte) (e2 .key) (bitAt word (8 + j)) (getD ranks (8 + j) 0)
@@ -293,7 +289,7 @@ module _ (p : ℕ) (P0 : p < 2) (e1 e2 e3 : Entry) (H : Through p e1 e2 e3) wher
       nine j = omega arith
 
       middle-at : (j : ℕ) → j < 8 → getD (v1 ++ (v2 ++ v3)) (8 + j) 0 ≡ getD v2 j 0
-      middle-at j h = append-past ℕ 0 v1 (v2 ++ v3) (8 + j) (past 8 j) ∙ ap (λ (m : ℕ). getD (v2 ++ v3) m 0) (less 8 j) ∙ append-at ℕ 0 v2 v3 j h
+      middle-at j h = append-past ℕ 0 v1 (v2 ++ v3) (8 + j) (past 8 j) ∙ ap (λ (m : ℕ). getD (v2 ++ v3) m 0) (less 8 j) ∙ List·getD-append v2 v3 0 j h
 
       last-at : (j : ℕ) → j < 8 → getD (v1 ++ (v2 ++ v3)) (16 + j) 0 ≡ getD v3 j 0
       last-at j h =

@@ -19,7 +19,6 @@ use Rattle.rank.specs.Section.{uniform, bitsOf, kSum}
 use Rattle.rank.specs.Laws.Vector.{below-up, class-ranks, middle-class}
 use Rattle.trellis.specs.Tables.{prefixes, middles, nexts, suffixes}
 use Rattle.trellis.specs.Code.{wordOf, columns, first, second, third}
-use Rattle.trellis.specs.Code as code
 use Rattle.trellis.specs.Laws.Code.{label-low, word-lt, bytes-even}
 use Rattle.trellis.specs.Trellis.{prefixOf, middleOf, nextOf, suffixOf}
 use Rattle.trellis.specs.Laws.Path.{path-at, first-at, second-at, third-at}
@@ -174,13 +173,13 @@ module _ (y : List ℤ) (W : HasWord y) where
   class-lt v = mod-lt (kZero v) (zero-lt-suc 1)
 
   -- a section that meets the bound of its own class; c is its byte, by a name of the tables
-  end-row : (s b c : ℕ) (hs : s < 3) → bitsOf (section y s) ≡ b → code.weight 8 b % 2 ≡ 0 → b ≡ c → T (inOwnClass (sectionRanks y s))
+  end-row : (s b c : ℕ) (hs : s < 3) → bitsOf (section y s) ≡ b → weight 8 b % 2 ≡ 0 → b ≡ c → T (inOwnClass (sectionRanks y s))
       → (f : ℕ → ℤ) → ((j : ℕ) → j < 8 → f j ≡ getD (section y s) j (pos 0))
       → RowOf (W .point .p) c (classOf tables (parK (λ j. kOf (f j)) 8)) f
   end-row s b c hs q even e m f a =
       let v = sectionRanks y s in
       let r = class v in
-      let even' : code.weight 8 c % 2 ≡ 0 = subst (λ (n : ℕ). code.weight 8 n % 2 ≡ 0) e even in
+      let even' : weight 8 c % 2 ≡ 0 = subst (λ (n : ℕ). weight 8 n % 2 ≡ 0) e even in
       row-of (W .point .p) c (section y s) (section-size y s hs) (part-uniform s hs) (q ∙ e) (own-small v m) f a
       (classOf tables (parK (λ j. kOf (f j)) 8)) (boundCost r) (boundCut r)
       (ap (classOf tables)

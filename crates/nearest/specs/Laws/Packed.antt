@@ -20,8 +20,7 @@ use Rattle.rank.specs.Vector.{ranksBelow, sq, cost, class, kZero, pack, unpack,
 use Rattle.rank.specs.Laws.Vector.{rank-first, rank-rest, unpack-at, unpack-pack, below-up}
 use Rattle.rank.specs.Section.{uniform, bitsOf, ranksOf, kSum}
 use Rattle.rank.specs.Laws.Section.{point-back, k-sum}
-use Rattle.trellis.specs.Code as code
-use Rattle.tetra.specs.Laws.Point.{point-at, even-times, drop-even, weight-same}
+use Rattle.tetra.specs.Laws.Point.{point-at, even-times, drop-even}
 use Rattle.search.specs.declared.Closed.{Closed}
 use Rattle.search.specs.Record.{bitAt}
 use Rattle.search.specs.Bound.{lexNum, lexOf, holds}
@@ -190,11 +189,11 @@ module _ (p c : ℕ) (t : List ℤ) (e : length t ≡ 8) (u : T (uniform p t)) (
       }
 
   -- and their class is the parity of the sum of k
-  pub class-of : code.weight 8 c % 2 ≡ 0 → parK (λ j. kOf (x j)) 8 ≡ class (ranksOf t)
+  pub class-of : weight 8 c % 2 ≡ 0 → parK (λ j. kOf (x j)) 8 ≡ class (ranksOf t)
   class-of even =
       ap (λ (n : ℕ). n % 2)
       (sum-same (λ j. modZ (kOf (x j)) 2) (λ j. modZ (kOf (getD t j (pos 0))) 2) 8 (λ j h. ap (λ (z : ℤ). modZ (kOf z) 2) (a j h))
       ∙ ap (sumTo (λ j. modZ (kOf (getD t j (pos 0))) 2)) (sym e))
       ∙ sym (k-sum-is t) ∙ k-sum p t u s
       ∙ ap₂ (λ (m b : ℕ). (kZero (ranksOf t) + p * weight m b) % 2) e q
-      ∙ drop-even (kZero (ranksOf t)) (p * weight 8 c) (even-times p (weight 8 c) (ap (λ (n : ℕ). n % 2) (weight-same 8 c) ∙ even))
+      ∙ drop-even (kZero (ranksOf t)) (p * weight 8 c) (even-times p (weight 8 c) even)

@@ -1,17 +1,21 @@
 -- `rank::residue`: the two low bits are the remainder from the floor. Assumes nothing.
-use mathlib.Core.Path.{_≡_, ap, _∙_}
-use Prim.Native.Nat.{ℕ, _^_, _<_}
+use mathlib.Core.Path.{_≡_, refl, ap, _∙_}
+use Prim.Native.Nat.{ℕ, _%_, _^_, _<_}
 use native.Mathlib.Omega.{arith}
 use lib.Bits.{bitAnd, and-mask, and-le-r}
 use lib.Dec.{T}
-use lib.IntN.{ℤ, pos, natAbs}
+use lib.IntN.{ℤ, pos, negsuc, natAbs}
 use lib.Signed.{nonNeg}
 use mir.Syntax.{w32}
 use mir.Val.{Fits, SFits, toZ, ofZ}
 use mir.Facts.{toZ-pos}
-use Rattle.laws.specs.Whole.{modZ, mod4-lt, low2}
+use Rattle.laws.specs.Whole.{modZ, mod4-lt}
 use Rattle.rank.proofs.residue.Statement.{statement}
 use Rattle.rank.proofs.residue.Tie as tie
+
+low2 : (y : ℤ) → SFits w32 y → ofZ w32 y % 2 ^ 2 ≡ modZ y 4
+low2 (pos n) f = refl
+low2 (negsuc n) f = omega arith
 
 -- a masked number is not negative
 plain : (a b : ℕ) → b < 2 ^ 31 → toZ w32 (bitAnd a b) ≡ pos (bitAnd a b)

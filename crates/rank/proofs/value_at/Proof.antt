@@ -10,7 +10,7 @@ use lib.ListN.{getD}
 use mir.Syntax.{w32}
 use mir.Val.{toZ, ofZ}
 use Rattle.laws.specs.Tests.{upto, below2}
-use Rattle.laws.specs.Whole.{eqZ, eqZ→eq}
+use Rattle.rank.specs.Laws.Coord.{eqZ, eqZ→eq}
 use Rattle.rank.specs.Coord.{valOf}
 use Rattle.rank.proofs.value_at.Statement.{statement}
 use Rattle.rank.proofs.value_at.Tie as tie

@@ -9,8 +9,8 @@ use native.Mathlib.Omega.{arith}
 use lib.Pow.{shr-shr, mod-pow-add}
 use lib.Dec.{T, ltb, ltb→lt, lt→ltb}
 use lib.ListN.{length, getD}
-use Rattle.laws.specs.Tests.{and-left, and-right, and-in, is-true, Says}
-use Rattle.laws.specs.Order.{pick3, lexLe, lexLt, LexLe, pick3-out, pick3-lt, pick3-eq, pick3-same, pick3-trans, pick3-says, lexLe-says, lexLt-trans}
+use Rattle.laws.specs.Tests.{and-left, and-right, and-in, is-true}
+use Rattle.laws.specs.Order.{pick3, lexLe, lexLt, pick3-out, pick3-lt, pick3-eq, pick3-same, pick3-trans}
 use Rattle.rank.specs.Vector.{ranksBelow, sq, cost, class, pack, unpack, before, within, boundCut, inClass, inMiddle, middleCost, middleCut}
 use Rattle.rank.specs.Answers.{outOfRange, classedOf, costedOf, heldOf, packedOf}
 use Rattle.rank.specs.declared.Classed.{Classed}
@@ -59,9 +59,6 @@ ranks-small b [] h = tt
 ranks-small b (r ∷ v) h = more-below b r v (rank-small b r (omega arith)) (ranks-small b v (omega arith))
 
 -- ---- a bound: cost below C, or cost C and at most the cut, coordinate 0 most significant
-pub within-says : (C : ℕ) (cut v : List ℕ) → Says (within C cut v) ((cost v < C) ⊎ ((cost v ≡ C) × LexLe v cut))
-within-says C cut v = pick3-says (cost v) C (lexLe v cut) (LexLe v cut) (lexLe-says v cut)
-
 -- what meets a bound costs at most the bound's cost
 within-cost : (C : ℕ) (cut v : List ℕ) → T (within C cut v) → cost v ≤ C
 within-cost C cut v t = go (pick3-out (cost v) C (lexLe v cut) t)
@@ -99,6 +96,12 @@ lex-not-both (x ∷ u) (y ∷ v) s t = not-both x y (lexLt u v) (lexLe v u) (lex
 
 pub before-not-after : (u v : List ℕ) → T (before u v) → T (within (cost u) u v) → ⊥
 before-not-after u v s t = not-both (cost u) (cost v) (lexLt u v) (lexLe v u) (lex-not-both u v) s t
+
+pub lexLt-trans : (u v w : List ℕ) → T (lexLt u v) → T (lexLt v w) → T (lexLt u w)
+lexLt-trans [] v w s t = absurd s
+lexLt-trans (x ∷ u) [] w s t = absurd s
+lexLt-trans (x ∷ u) (y ∷ v) [] s t = absurd t
+lexLt-trans (x ∷ u) (y ∷ v) (z ∷ w) s t = pick3-trans x y z (lexLt u v) (lexLt v w) (lexLt u w) (lexLt-trans u v w) s t
 
 pub before-trans : (u v w : List ℕ) → T (before u v) → T (before v w) → T (before u w)
 before-trans u v w s t = pick3-trans (cost u) (cost v) (cost w) (lexLt u v) (lexLt v w) (lexLt u w) (lexLt-trans u v w) s t

@@ -9,7 +9,7 @@ use native.Mathlib.Omega.{arith}
 use lib.Dec.{T, ltb}
 use lib.ListN.{length, getD}
 use Rattle.laws.specs.Tests.{is-true}
-use Rattle.laws.specs.Lists.{standsAt, stands-there, stands-first, stands-le}
+use Rattle.laws.specs.Lists.{seek, seek-holds, seek-first, seek-le}
 use Rattle.rank.specs.Vector.{ranksBelow, class, pack, unpack, before, inClass, inMiddle, boundCost, boundCut}
 use Rattle.rank.specs.Laws.Vector.{below-up, within-down, unpack-pack}
 use Rattle.rows.specs.Rows.{rows}
@@ -31,15 +31,15 @@ number-back p = omega arith
 -- ---- a packed row
 find-le : (w : ℕ) → findOf w ≤ 4096
 unfolding findOf
-find-le w = subst (λ (n : ℕ). standsAt w rows ≤ n) count (stands-le w rows)
+find-le w = subst (λ (n : ℕ). seek w rows ≤ n) count (seek-le w rows)
 
 find-row : (w : ℕ) → findOf w < 4096 → getD rows (findOf w) 0 ≡ w
 unfolding findOf
-find-row w h = stands-there w rows (omega (arith, count))
+find-row w h = seek-holds w rows (omega (arith, count))
 
 find-first : (w i : ℕ) → i < 4096 → getD rows i 0 ≡ w → findOf w ≤ i
 unfolding findOf
-find-first w i h e = stands-first w rows i (omega (arith, count)) e
+find-first w i h e = seek-first w rows i (omega (arith, count)) e
 
 pub find-at : (w i : ℕ) → i < 4096 → getD rows i 0 ≡ w → findOf w ≡ i
 unfolding rowRanks

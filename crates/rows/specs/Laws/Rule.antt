@@ -1,12 +1,12 @@
 -- The table's rule, one computed test over all rows, and what it says of each row. Assumes nothing.
 use mathlib.Core.Path.{_≡_, refl, sym, subst}
-use mathlib.Core.Bool.{Bool, _&&_, Bool·beq}
+use mathlib.Core.Bool.{Bool, true, false, _&&_, Bool·beq}
 use mathlib.Core.List.{List}
 use Prim.Native.Nat.{ℕ, _+_, _/_, _%_, _<_}
 use native.Mathlib.Omega.{arith}
 use lib.Dec.{T, ltb, eqb, eqb→eq}
 use lib.ListN.{length, getD}
-use Rattle.laws.specs.Tests.{split4, beq-eq}
+use Rattle.laws.specs.Tests.{split4}
 use Rattle.laws.specs.Tables.{every, at}
 use Rattle.rank.specs.Vector.{ranksBelow, class, pack, unpack, inClass, inMiddle}
 use Rattle.rank.specs.Laws.Vector.{class-ranks}
@@ -59,6 +59,12 @@ row-within i h = right-at i h .1
 -- each row meets the bound of its own class
 pub row-in : (i : ℕ) → i < 4096 → T (inClass (class (rowRanks i)) (rowRanks i))
 row-in i h = subst (λ (c : ℕ). T (inClass c (rowRanks i))) (sym (row-class i h)) (row-within i h)
+
+beq-eq : (a b : Bool) → T (Bool·beq a b) → a ≡ b
+beq-eq true true t = refl
+beq-eq true false t = absurd t
+beq-eq false true t = absurd t
+beq-eq false false t = refl
 
 pub row-middle : (i : ℕ) → i < 4096 → inMiddle (rowRanks i) ≡ ltb (i % 2048) (middleRows (i / 2048))
 unfolding rowRanks

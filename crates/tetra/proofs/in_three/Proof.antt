@@ -7,9 +7,8 @@ use borrow.Author.Needs.{needs}
 use mir.Syntax.{w32}
 use mir.Val.{SFits}
 use mir.Facts.{toZ-ofZ}
-use lib.ListN.{length, getD}
-use lib.IntN.{ℤ, pos}
-use Rattle.laws.specs.Lists.{append-at}
+use lib.ListN.{length, getD, List·getD-append}
+use lib.IntN.{pos}
 use Rattle.tetra.proofs.Decoding.{in-second, in-third}
 use Rattle.tetra.proofs.in_three.Statement.{statement}
 use Rattle.tetra.proofs.in_three.Tie as tie
@@ -24,7 +23,7 @@ returns : tie.Need-returns
 returns c =
     let a = c .before .before .args in
     let f : SFits w32 (getD (a .t1) (a .j) (pos 0)) = record { sfits = c .result .given } in
-    toZ-ofZ f ∙ sym (append-at ℤ (pos 0) (a .t1) (a .t2 ++ a .t3) (a .j) (omega arith))
+    toZ-ofZ f ∙ sym (List·getD-append (a .t1) (a .t2 ++ a .t3) (pos 0) (a .j) (omega arith))
 
 mul-result-2 : tie.Need-mul-result-2
 mul-result-2 c = search needs

@@ -1,24 +1,21 @@
 -- `tetra::marks`: the marks set so far. Assumes nothing.
 use mathlib.Core.Path.{_≡_, refl, ap, sym, _∙_}
-use Prim.Native.Nat.{ℕ, _+_, _*_, _-_, _≤_, _<_}
+use Prim.Native.Nat.{ℕ, _+_, _*_, _-_}
 use native.Mathlib.Omega.{arith}
 use borrow.Author.Count.{below-none}
 use borrow.Author.Needs.{needs}
 use mir.Syntax.{w32}
 use mir.Val.{SFits}
 use mir.Facts.{toZ-ofZ}
-use lib.ListN.{length, getD, take, drop, length-set}
+use lib.ListN.{length, getD, take, drop}
 use lib.IntN.{pos}
-use lib.Seq.{ext-getD}
-use Rattle.laws.specs.Lists.{filled-more}
 use Rattle.rank.specs.Answers.{markOf, marksOf}
-use Rattle.tetra.proofs.Rows.{marks-at, marks-length}
+use Rattle.tetra.proofs.Rows.{Laid, laid-more, laid-all, marks-at, marks-length}
 use Rattle.tetra.proofs.marks.Statement.{statement}
 use Rattle.tetra.proofs.marks.Tie as tie
 
 abbrev Inv-loop : tie.InvT-loop
-Inv-loop s t rho₀ j₀ rho j =
-    (j ≤ 8) × (length rho ≡ 8) × ((k : ℕ) → k < j → getD rho k 0 ≡ markOf (getD t (8 * s + k) (pos 0)))
+Inv-loop s t rho₀ j₀ rho j = Laid 0 (marksOf (take 8 (drop (8 * s) t))) 8 rho j
 
 abbrev μ-loop : tie.MeasureT-loop
 μ-loop s t rho₀ j₀ rho j = 8 - j
@@ -56,13 +53,13 @@ loop-less c = search needs
 loop-again : tie.Need-loop-again Inv-loop μ-loop
 loop-again c =
     let l = c .before .before .before .loop in
-    let a = c .before .before .before .before .args in
-    let f : SFits w32 (getD (a .t1) (8 * a .s + l .j) (pos 0)) = record { sfits = c .before .mark-arg .given } in (
-      omega arith,
-      simp length-set (l .inv .1),
-      filled-more ℕ 0 (λ (k : ℕ). markOf (getD (a .t1) (8 * a .s + k) (pos 0))) (l .rho) (l .j) _ (omega arith)
-          (c .mark .ensures .0 ∙ ap markOf (toZ-ofZ f)) (l .inv .2),
-    )
+    let st = c .before .before .before .before in
+    let t = st .args .t1 in
+    let s = st .args .s in
+    let e : length t ≡ 24 = search needs in
+    let f : SFits w32 (getD t (8 * s + l .j) (pos 0)) = record { sfits = c .before .mark-arg .given } in
+    laid-more ℕ 0 (marksOf (take 8 (drop (8 * s) t))) 8 (l .rho) (l .j) _ (l .inv) (omega arith)
+    (c .mark .ensures .0 ∙ ap markOf (toZ-ofZ f) ∙ sym (marks-at t e s (st .pre) (l .j) (omega arith)))
 
 returns : tie.Need-returns Inv-loop μ-loop
 returns c =
@@ -71,8 +68,7 @@ returns c =
     let t = st .args .t1 in
     let s = st .args .s in
     let e : length t ≡ 24 = search needs in
-    ext-getD 0 (l .rho) (marksOf (take 8 (drop (8 * s) t))) (l .inv .1 ∙ sym (marks-length t e s (st .pre)))
-    (λ k h. l .inv .2 k (omega arith) ∙ sym (marks-at t e s (st .pre) k (omega arith)))
+    laid-all ℕ 0 (marksOf (take 8 (drop (8 * s) t))) 8 (l .rho) (l .j) (l .inv) (omega arith) (marks-length t e s (st .pre))
 
 pub marks-spec : {M : Type 1} → statement M
 marks-spec =

@@ -1,28 +1,26 @@
 -- `tetra::section_of`: the coordinates laid out so far. Assumes nothing.
 use mathlib.Core.Path.{_≡_, refl, ap, sym, _∙_}
-use Prim.Native.Nat.{ℕ, _+_, _*_, _/_, _^_, _-_, _≤_, _<_}
+use Prim.Native.Nat.{ℕ, _+_, _*_, _/_, _^_, _-_}
 use native.Mathlib.Omega.{arith}
 use borrow.Author.Count.{below-none}
 use borrow.Author.Needs.{needs}
 use mir.Syntax.{w32}
 use mir.Val.{SFits}
 use mir.Facts.{toZ-ofZ}
-use lib.ListN.{length, getD, length-set}
+use lib.ListN.{length, getD}
 use lib.IntN.{ℤ, pos}
 use lib.Bits.{and-mask}
-use lib.Seq.{ext-getD}
-use Rattle.laws.specs.Lists.{filled-more}
 use Rattle.rank.specs.Coord.{valOf}
 use Rattle.rank.specs.Section.{pointAt}
 use Rattle.rank.specs.Laws.Section.{point-length}
 use Rattle.rank.specs.Laws.Vector.{below-at}
 use Rattle.tetra.specs.Laws.Point.{point-at}
+use Rattle.tetra.proofs.Rows.{Laid, laid-more, laid-all}
 use Rattle.tetra.proofs.section_of.Statement.{statement}
 use Rattle.tetra.proofs.section_of.Tie as tie
 
 abbrev Inv-loop : tie.InvT-loop
-Inv-loop p c rho out₀ j₀ out j =
-    (j ≤ 8) × (length out ≡ 8) × ((k : ℕ) → k < j → getD out k (pos 0) ≡ getD (pointAt p c rho) k (pos 0))
+Inv-loop p c rho out₀ j₀ out j = Laid (pos 0) (pointAt p c rho) 8 out j
 
 abbrev μ-loop : tie.MeasureT-loop
 μ-loop p c rho out₀ j₀ out j = 8 - j
@@ -75,21 +73,18 @@ loop-again : tie.Need-loop-again Inv-loop μ-loop
 loop-again c =
     let l = c .before .before .loop in
     let a = c .before .before .before .args in
-    let f : SFits w32 (c .value .result) = search needs in (
-      omega arith,
-      simp length-set (l .inv .1),
-      filled-more ℤ (pos 0) (λ (k : ℕ). getD (pointAt (a .p) (a .c) (a .t3)) k (pos 0)) (l .out) (l .j) _ (omega arith)
-          (toZ-ofZ f ∙ c .value .ensures ∙ ap (λ (b : ℕ). valOf (a .p + 2 * b) (getD (a .t3) (l .j) 0)) (and-mask (a .c / 2 ^ l .j) 1)
-          ∙ sym (point-at (a .p) (a .c) (a .t3) (l .j) (omega arith))) (l .inv .2),
-    )
+    let f : SFits w32 (c .value .result) = search needs in
+    laid-more ℤ (pos 0) (pointAt (a .p) (a .c) (a .t3)) 8 (l .out) (l .j) _ (l .inv) (omega arith)
+    (toZ-ofZ f ∙ c .value .ensures ∙ ap (λ (b : ℕ). valOf (a .p + 2 * b) (getD (a .t3) (l .j) 0)) (and-mask (a .c / 2 ^ l .j) 1)
+    ∙ sym (point-at (a .p) (a .c) (a .t3) (l .j) (omega arith)))
 
 returns : tie.Need-returns Inv-loop μ-loop
 returns c =
     let l = c .before .loop in
     let a = c .before .before .args in
     let e : length (a .t3) ≡ 8 = search needs in
-    ext-getD (pos 0) (l .out) (pointAt (a .p) (a .c) (a .t3)) (l .inv .1 ∙ sym (point-length (a .p) (a .c) (a .t3) ∙ e))
-    (λ k h. l .inv .2 k (omega arith))
+    laid-all ℤ (pos 0) (pointAt (a .p) (a .c) (a .t3)) 8 (l .out) (l .j) (l .inv) (omega arith)
+    (point-length (a .p) (a .c) (a .t3) ∙ e)
 
 pub section-of-spec : {M : Type 1} → statement M
 section-of-spec =

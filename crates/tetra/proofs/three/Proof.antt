@@ -1,24 +1,22 @@
 -- `tetra::three`: the coordinates laid out so far. Assumes nothing.
-use mathlib.Core.Path.{_≡_, refl, sym, _∙_}
+use mathlib.Core.Path.{_≡_, refl, _∙_}
 use mathlib.Core.List.{_++_}
-use Prim.Native.Nat.{ℕ, _-_, _≤_, _<_}
+use Prim.Native.Nat.{_-_}
 use native.Mathlib.Omega.{arith}
 use borrow.Author.Count.{below-none}
 use borrow.Author.Needs.{needs}
 use mir.Syntax.{w32}
 use mir.Val.{SFits}
 use mir.Facts.{toZ-ofZ}
-use lib.ListN.{length, getD, length-set}
+use lib.ListN.{length}
 use lib.IntN.{ℤ, pos}
-use lib.Seq.{ext-getD}
-use Rattle.laws.specs.Lists.{filled-more}
+use Rattle.tetra.proofs.Rows.{Laid, laid-more, laid-all}
 use Rattle.tetra.proofs.Decoding.{three-length}
 use Rattle.tetra.proofs.three.Statement.{statement}
 use Rattle.tetra.proofs.three.Tie as tie
 
 abbrev Inv-loop : tie.InvT-loop
-Inv-loop a b c out₀ j₀ out j =
-    (j ≤ 24) × (length out ≡ 24) × ((k : ℕ) → k < j → getD out k (pos 0) ≡ getD (a ++ (b ++ c)) k (pos 0))
+Inv-loop a b c out₀ j₀ out j = Laid (pos 0) (a ++ (b ++ c)) 24 out j
 
 abbrev μ-loop : tie.MeasureT-loop
 μ-loop a b c out₀ j₀ out j = 24 - j
@@ -45,12 +43,8 @@ loop-again : tie.Need-loop-again Inv-loop μ-loop
 loop-again c =
     let l = c .before .before .loop in
     let a = c .before .before .before .args in
-    let f : SFits w32 (c .in-three .result) = search needs in (
-      omega arith,
-      simp length-set (l .inv .1),
-      filled-more ℤ (pos 0) (λ (k : ℕ). getD (a .a ++ (a .b ++ a .c)) k (pos 0)) (l .out) (l .j) _ (omega arith)
-          (toZ-ofZ f ∙ c .in-three .ensures) (l .inv .2),
-    )
+    let f : SFits w32 (c .in-three .result) = search needs in
+    laid-more ℤ (pos 0) (a .a ++ (a .b ++ a .c)) 24 (l .out) (l .j) _ (l .inv) (omega arith) (toZ-ofZ f ∙ c .in-three .ensures)
 
 returns : tie.Need-returns Inv-loop μ-loop
 returns c =
@@ -59,8 +53,8 @@ returns c =
     let la : length (a .a) ≡ 8 = search needs in
     let lb : length (a .b) ≡ 8 = search needs in
     let lc : length (a .c) ≡ 8 = search needs in
-    ext-getD (pos 0) (l .out) (a .a ++ (a .b ++ a .c)) (l .inv .1 ∙ sym (three-length (a .a) (a .b) (a .c) la lb lc))
-    (λ k h. l .inv .2 k (omega arith))
+    laid-all ℤ (pos 0) (a .a ++ (a .b ++ a .c)) 24 (l .out) (l .j) (l .inv) (omega arith)
+    (three-length (a .a) (a .b) (a .c) la lb lc)
 
 pub three-spec : {M : Type 1} → statement M
 three-spec =

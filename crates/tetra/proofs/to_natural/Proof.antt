@@ -1,25 +1,23 @@
 -- `tetra::to_natural`: the coordinates set so far. Assumes nothing.
-use mathlib.Core.Path.{_≡_, refl, ap, sym, _∙_}
-use Prim.Native.Nat.{ℕ, _-_, _≤_, _<_}
+use mathlib.Core.Path.{refl, ap, sym, _∙_}
+use Prim.Native.Nat.{ℕ, _-_}
 use native.Mathlib.Omega.{arith}
 use borrow.Author.Count.{below-none}
 use borrow.Author.Needs.{needs}
 use mir.Syntax.{w32}
 use mir.Val.{SFits}
 use mir.Facts.{toZ-ofZ}
-use lib.ListN.{length, getD, length-set}
+use lib.ListN.{getD}
 use lib.IntN.{ℤ, pos}
-use lib.Seq.{ext-getD}
-use Rattle.laws.specs.Lists.{filled-more}
 use Rattle.trellis.specs.Laws.Trio.{trio-fits}
 use Rattle.tetra.specs.Tetra.{natural}
 use Rattle.tetra.specs.Laws.Orders.{natural-at, natural-length}
+use Rattle.tetra.proofs.Rows.{Laid, laid-more, laid-all}
 use Rattle.tetra.proofs.to_natural.Statement.{statement}
 use Rattle.tetra.proofs.to_natural.Tie as tie
 
 abbrev Inv-loop : tie.InvT-loop
-Inv-loop t out₀ i₀ out i =
-    (i ≤ 24) × (length out ≡ 24) × ((k : ℕ) → k < i → getD out k (pos 0) ≡ getD (natural t) k (pos 0))
+Inv-loop t out₀ i₀ out i = Laid (pos 0) (natural t) 24 out i
 
 abbrev μ-loop : tie.MeasureT-loop
 μ-loop t out₀ i₀ out i = 24 - i
@@ -52,18 +50,15 @@ loop-again : tie.Need-loop-again Inv-loop μ-loop
 loop-again c =
     let l = c .before .before .before .loop in
     let t = c .before .before .before .before .args .t1 in
-    let f : SFits w32 (getD t (c .before .place .result) (pos 0)) = record { sfits = c .out .given } in (
-      omega arith,
-      simp length-set (l .inv .1),
-      filled-more ℤ (pos 0) (λ (k : ℕ). getD (natural t) k (pos 0)) (l .out) (l .i) _ (omega arith)
-          (toZ-ofZ f ∙ ap (λ (n : ℕ). getD t n (pos 0)) (c .before .place .ensures) ∙ sym (natural-at t (l .i) (omega arith))) (l .inv .2),
-    )
+    let f : SFits w32 (getD t (c .before .place .result) (pos 0)) = record { sfits = c .out .given } in
+    laid-more ℤ (pos 0) (natural t) 24 (l .out) (l .i) _ (l .inv) (omega arith)
+    (toZ-ofZ f ∙ ap (λ (n : ℕ). getD t n (pos 0)) (c .before .place .ensures) ∙ sym (natural-at t (l .i) (omega arith)))
 
 returns : tie.Need-returns Inv-loop μ-loop
 returns c =
     let l = c .before .loop in
     let t = c .before .before .args .t1 in
-    ext-getD (pos 0) (l .out) (natural t) (l .inv .1 ∙ sym (natural-length t)) (λ k h. l .inv .2 k (omega arith))
+    laid-all ℤ (pos 0) (natural t) 24 (l .out) (l .i) (l .inv) (omega arith) (natural-length t)
 
 pub to-natural-spec : {M : Type 1} → statement M
 to-natural-spec =

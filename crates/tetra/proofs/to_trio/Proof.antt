@@ -1,25 +1,23 @@
 -- `tetra::to_trio`: the coordinates set so far. Assumes nothing.
-use mathlib.Core.Path.{_≡_, refl, ap, sym, _∙_}
-use Prim.Native.Nat.{ℕ, _-_, _≤_, _<_}
+use mathlib.Core.Path.{refl, ap, sym, _∙_}
+use Prim.Native.Nat.{ℕ, _-_}
 use native.Mathlib.Omega.{arith}
 use borrow.Author.Count.{below-none}
 use borrow.Author.Needs.{needs}
 use mir.Syntax.{w32}
 use mir.Val.{SFits}
 use mir.Facts.{toZ-ofZ}
-use lib.ListN.{length, getD, length-set}
+use lib.ListN.{getD}
 use lib.IntN.{ℤ, pos}
-use lib.Seq.{ext-getD}
-use Rattle.laws.specs.Lists.{filled-more}
 use Rattle.trellis.specs.Laws.Trio.{trio-fits}
 use Rattle.tetra.specs.Lattice.{trio}
 use Rattle.tetra.specs.Laws.Orders.{trio-at, trio-length}
+use Rattle.tetra.proofs.Rows.{Laid, laid-more, laid-all}
 use Rattle.tetra.proofs.to_trio.Statement.{statement}
 use Rattle.tetra.proofs.to_trio.Tie as tie
 
 abbrev Inv-loop : tie.InvT-loop
-Inv-loop y out₀ j₀ out j =
-    (j ≤ 24) × (length out ≡ 24) × ((k : ℕ) → k < j → getD out k (pos 0) ≡ getD (trio y) k (pos 0))
+Inv-loop y out₀ j₀ out j = Laid (pos 0) (trio y) 24 out j
 
 abbrev μ-loop : tie.MeasureT-loop
 μ-loop y out₀ j₀ out j = 24 - j
@@ -52,18 +50,15 @@ loop-again : tie.Need-loop-again Inv-loop μ-loop
 loop-again c =
     let l = c .before .before .before .loop in
     let y = c .before .before .before .before .args .t1 in
-    let f : SFits w32 (getD y (c .before .order .result) (pos 0)) = record { sfits = c .out .given } in (
-      omega arith,
-      simp length-set (l .inv .1),
-      filled-more ℤ (pos 0) (λ (k : ℕ). getD (trio y) k (pos 0)) (l .out) (l .j) _ (omega arith)
-          (toZ-ofZ f ∙ ap (λ (n : ℕ). getD y n (pos 0)) (c .before .order .ensures) ∙ sym (trio-at y (l .j) (omega arith))) (l .inv .2),
-    )
+    let f : SFits w32 (getD y (c .before .order .result) (pos 0)) = record { sfits = c .out .given } in
+    laid-more ℤ (pos 0) (trio y) 24 (l .out) (l .j) _ (l .inv) (omega arith)
+    (toZ-ofZ f ∙ ap (λ (n : ℕ). getD y n (pos 0)) (c .before .order .ensures) ∙ sym (trio-at y (l .j) (omega arith)))
 
 returns : tie.Need-returns Inv-loop μ-loop
 returns c =
     let l = c .before .loop in
     let y = c .before .before .args .t1 in
-    ext-getD (pos 0) (l .out) (trio y) (l .inv .1 ∙ sym (trio-length y)) (λ k h. l .inv .2 k (omega arith))
+    laid-all ℤ (pos 0) (trio y) 24 (l .out) (l .j) (l .inv) (omega arith) (trio-length y)
 
 pub to-trio-spec : {M : Type 1} → statement M
 to-trio-spec =

@@ -1,7 +1,7 @@
 -- The point of a word's fields: its parity, bits and ranks; and that the parity of the sum of k of such a point is that of its three classes.
 -- Assumes nothing.
 use mathlib.Core.Path.{_≡_, refl, ap, ap₂, sym, subst, _∙_}
-use mathlib.Core.List.{List, [], _∷_, _++_}
+use mathlib.Core.List.{List, [], _∷_, _++_, map}
 use Prim.Native.Nat.{ℕ, zero, suc, _+_, _*_, _/_, _%_, _^_, _<_, _≤_}
 use native.Mathlib.Nat.{not-suc-le-zero, le-of-suc-le-suc, div-one, mod-eq-of-lt, zero-add, add-assoc, zero-mul, suc-mul}
 use native.Mathlib.Omega.{arith}
@@ -10,7 +10,6 @@ use lib.Dec.{T, leb, leb→le}
 use lib.IntN.{ℤ, pos, natAbs}
 use lib.ListN.{length, getD, take, drop}
 use Rattle.laws.specs.Tests.{upto, below2}
-use Rattle.laws.specs.Lists.{map-take, map-drop}
 use Rattle.laws.specs.Whole.{modZ}
 use Rattle.laws.specs.Bits.{weight}
 use Rattle.word.specs.Word.{Narrow}
@@ -25,12 +24,21 @@ use Rattle.rows.specs.Laws.Rule.{row-class, row-ranks}
 use Rattle.rows.specs.Laws.Places.{number-class}
 use Rattle.rows.specs.Laws.Middle.{middle-lt, middle-row-class}
 use Rattle.trellis.specs.Code.{wordOf, columns, label}
-use Rattle.trellis.specs.Code as code
 use Rattle.trellis.specs.Laws.Code.{word-lt, weight-even}
 use Rattle.tetra.specs.Lattice.{Codeword}
 use Rattle.tetra.specs.Tetra.{codewordAt, thirdClass, ranksAt, trioPoint}
 
 -- ---- ranks one after another
+map-take : (A B : Type 0) (f : A → B) (n : ℕ) (xs : List A) → map f (take n xs) ≡ take n (map f xs)
+map-take A B f zero xs = refl
+map-take A B f (suc n) [] = refl
+map-take A B f (suc n) (x ∷ xs) = ap (λ (l : List B). f x ∷ l) (map-take A B f n xs)
+
+map-drop : (A B : Type 0) (f : A → B) (n : ℕ) (xs : List A) → map f (drop n xs) ≡ drop n (map f xs)
+map-drop A B f zero xs = refl
+map-drop A B f (suc n) [] = refl
+map-drop A B f (suc n) (x ∷ xs) = map-drop A B f n xs
+
 -- the ranks of a part are that part of the ranks
 pub ranks-part : (m : ℕ) (t : List ℤ) → ranksOf (take 8 (drop m t)) ≡ take 8 (drop m (ranksOf t))
 ranks-part m t = map-take ℤ ℕ rankOf 8 (drop m t) ∙ ap (take 8) (map-drop ℤ ℕ rankOf m t)
@@ -67,17 +75,13 @@ even-times (suc p) m e = omega (arith, even-times p m e, suc-mul p m)
 pub drop-even : (a b : ℕ) → b % 2 ≡ 0 → (a + b) % 2 ≡ a % 2
 drop-even a b e = omega arith
 
-pub weight-same : (d w : ℕ) → weight d w ≡ code.weight d w
-weight-same zero w = refl
-weight-same (suc d) w = ap (λ (n : ℕ). w % 2 + n) (weight-same d (w / 2))
-
 pub k-classes : (p : ℕ) (t : List ℤ) → length t ≡ 24 → Codeword (bitsOf t) → T (uniform p t) → T (ranksBelow 8 (ranksOf t))
     → modZ (kSum t) 2 ≡ class (ranksOf t)
 k-classes p t e c u s =
     k-sum p t u s
     ∙ drop-even (kZero (ranksOf t)) (p * weight (length t) (bitsOf t))
     (even-times p (weight (length t) (bitsOf t))
-    (ap (λ (n : ℕ). n % 2) (ap₂ weight e (sym (c .made)) ∙ weight-same 24 (wordOf columns (c .label))) ∙ weight-even (c .label)))
+    (ap₂ (λ (d w : ℕ). weight d w % 2) e (sym (c .made)) ∙ weight-even (c .label)))
 
 -- ---- coordinate by coordinate
 pub point-at : (p c : ℕ) (v : List ℕ) (j : ℕ) → j < length v
@@ -123,7 +127,7 @@ module _ (f : Fields) (n : Narrow f) where
   pub third-row : 2048 * thirdClass f + f .i3 < 4096
   third-row = omega (arith, third-lt f)
 
-  pub ranks-size : length (ranksAt f) ≡ 24
+  ranks-size : length (ranksAt f) ≡ 24
   unfolding ranksAt rowRanks
   ranks-size = refl
 
@@ -158,7 +162,7 @@ module _ (f : Fields) (n : Narrow f) where
   unfolding codewordAt
   point-codeword = record { label = label (f .s8) (f .b1) (f .b2) (f .b3); made = sym bits-are }
 
-  pub ranks-are : ranksOf (trioPoint f) ≡ ranksAt f
+  ranks-are : ranksOf (trioPoint f) ≡ ranksAt f
   unfolding trioPoint
   ranks-are = point-ranks (f .p) (n .p) (codewordAt f) (ranksAt f) ranks-below
 

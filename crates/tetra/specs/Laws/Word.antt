@@ -42,7 +42,7 @@ section-size y s h = length-take-le 8 (drop (8 * s) (trio y)) (omega (arith, len
 pub section-length : (y : List ℤ) (s : ℕ) → s < 3 → length (sectionRanks y s) ≡ 8
 section-length y s h = length-map (section y s) rankOf ∙ section-size y s h
 
-pub sections : (y : List ℤ) → sectionRanks y 0 ++ (sectionRanks y 1 ++ sectionRanks y 2) ≡ ranksOf (trio y)
+sections : (y : List ℤ) → sectionRanks y 0 ++ (sectionRanks y 1 ++ sectionRanks y 2) ≡ ranksOf (trio y)
 sections y =
     let t = trio y in
     ap₂ (λ (a b : List ℕ). a ++ b) (ranks-part 0 t) (ap₂ (λ (a b : List ℕ). a ++ b) (ranks-part 8 t) (ranks-part 16 t))
@@ -226,7 +226,7 @@ module _ (w : ℕ) where
   section2 = ap (λ (t : List ℤ). ranksOf (take 8 (drop 16 t))) (trio-of w) ∙ third-is (fieldsOf w) (split-narrow w)
 
   -- its coordinates have the parity of the field p
-  pub word-parity : (i : ℕ) → i < 24 → parityOf (getD (pointOf w) i (pos 0)) ≡ fieldsOf w .p
+  word-parity : (i : ℕ) → i < 24 → parityOf (getD (pointOf w) i (pos 0)) ≡ fieldsOf w .p
   unfolding pointOf trioPointOf
   word-parity =
       let f = fieldsOf w in

@@ -9,13 +9,16 @@ use native.Mathlib.Omega.{arith}
 use lib.Dec.{T, eqb}
 use lib.Pow.{mod-pow-add}
 use lib.ListN.{length, getD, drop, length-take, length-drop}
-use Rattle.laws.specs.Lists.{tab-length, tab-at, seek, seek-le, seek-holds, seek-is, seek-none, Distinct, look-at, look-none, look-out, look-missing, look-map, lookUp}
-use Rattle.laws.specs.Tables.{every, found-distinct, up-distinct}
+use Rattle.laws.specs.Lists.{tab-length, tab-at, seek, seek-holds}
+use Rattle.laws.specs.Tables.{every}
 use Rattle.trellis.specs.Code.{wordOf, columns, codewords, label, first, second, third}
 use Rattle.trellis.specs.Tables.{prefixes, middles, suffixes}
-use Rattle.trellis.specs.Trellis.{row, prefixOf, middleOf, nextOf, suffixOf, path, s8Of, b1Of, b2Of, b3Of, s16Of, openingOf, passageOf, closingOf, openingSays, passageSays, closingSays, labelOf}
-use Rattle.trellis.specs.Laws.Path.{row-at, row-length, path-at, first-at, second-at, third-at, middle-up, prefixes-length, middles-length, suffixes-length, suffix-pair, next-lt}
+use Rattle.trellis.specs.Trellis.{row, prefixOf, middleOf, nextOf, suffixOf, path, s8Of, b1Of, b2Of, b3Of, s16Of, labelOf}
+use Rattle.trellis.specs.Trellis.{openingOf, passageOf, closingOf, openingSays, passageSays, closingSays}
+use Rattle.trellis.specs.Laws.Path.{row-at, row-length, prefixes-length, middles-length, suffixes-length}
+use Rattle.trellis.specs.Laws.Path.{path-at, first-at, second-at, third-at, middle-up, suffix-pair, next-lt}
 use Rattle.trellis.specs.Laws.Code.{distinct}
+use Rattle.trellis.specs.Laws.Look.{seek-is, seek-none, Distinct, found-distinct, up-distinct, says-iff, says-none}
 use Rattle.trellis.specs.declared.Opening.{Opening}
 use Rattle.trellis.specs.declared.Opening.the-variants.{From, NoState}
 use Rattle.trellis.specs.declared.Passage.{Passage}
@@ -24,7 +27,7 @@ use Rattle.trellis.specs.declared.Closing.{Closing}
 use Rattle.trellis.specs.declared.Closing.the-variants.{By, NoSuffix}
 
 -- ---- an answer is known from what it says
-pub opening-by : (o p : Opening) → openingSays o ≡ openingSays p → o ≡ p
+opening-by : (o p : Opening) → openingSays o ≡ openingSays p → o ≡ p
 opening-by (From s b) (From t d) e = cc
 opening-by (From s b) NoState e = cc
 opening-by NoState (From t d) e = cc
@@ -50,48 +53,49 @@ prefixes-found = tt
 pub prefixes-distinct : Distinct prefixes
 prefixes-distinct = found-distinct prefixes prefixes-found
 
--- no answer says nothing
-no-values : (x : ℕ) (xs : List ℕ) → [] ≡ x ∷ xs → ⊥
-no-values x xs e = let z : _≡_ {A = ℕ} 0 1 = cc in omega arith
+-- some numbers are not none
+some : (x : ℕ) (xs : List ℕ) → x ∷ xs ≡ [] → ⊥
+some x xs e = let z : _≡_ {A = ℕ} 0 1 = cc in omega arith
 
-abbrev openAt : ℕ → List ℕ
-openAt i = (i / 2) ∷ (i % 2) ∷ []
+abbrev openAt : ℕ → Opening
+openAt i = From (i / 2) (i % 2)
 
-opening-says : (c1 : ℕ) → openingSays (openingOf c1) ≡ lookUp openAt [] prefixes c1
-unfolding openingOf
-opening-says c1 = look-map Opening (List ℕ) openingSays (λ (i : ℕ). From (i / 2) (i % 2)) NoState prefixes c1
+loud-open : (i : ℕ) → openingSays (openAt i) ≡ [] → ⊥
+loud-open i = some (i / 2) ((i % 2) ∷ [])
+
+-- the place of a prefix among them all, and back
+at-place : (s b : ℕ) → b < 2 → prefixOf s b ≡ getD prefixes (2 * s + b) 0
+unfolding prefixOf
+at-place s b h = row-at 2 prefixes s b h
+
+place-at : (i : ℕ) → prefixOf (i / 2) (i % 2) ≡ getD prefixes i 0
+place-at i = at-place (i / 2) (i % 2) (omega arith) ∙ ap (λ (n : ℕ). getD prefixes n 0) (omega arith)
 
 pub opening-iff : (c1 s8 b1 : ℕ) → (openingSays (openingOf c1) ≡ s8 ∷ b1 ∷ []) ↔ ((s8 < 64) × (b1 < 2) × (prefixOf s8 b1 ≡ c1))
-unfolding prefixOf
-opening-iff c s b = (λ e. look-out (List ℕ) openAt [] prefixes c (s ∷ b ∷ []) _ (no-values s (b ∷ [])) out (sym (opening-says c) ∙ e), into)
+unfolding openingOf
+opening-iff c s b = (
+  λ e.
+      let q = found .0 e in
+      let i = q .0 in
+      let v : (i / 2) ∷ (i % 2) ∷ [] ≡ s ∷ b ∷ [] = q .3 in
+      let es : i / 2 ≡ s = cc in
+      let eb : i % 2 ≡ b = cc in
+      (omega (arith, prefixes-length, q .1), omega arith, ap₂ prefixOf (sym es) (sym eb) ∙ place-at i ∙ q .2),
+  λ q. found .1
+      (2 * s + b, omega (arith, prefixes-length), sym (at-place s b (q .1)) ∙ q .2, ap₂ (λ (x y : ℕ). x ∷ y ∷ []) (omega arith) (omega arith)),
+)
   where
-    out : (i : ℕ) → i < length prefixes → getD prefixes i 0 ≡ c → (i / 2) ∷ (i % 2) ∷ [] ≡ s ∷ b ∷ []
-        → (s < 64) × (b < 2) × (getD (row 2 prefixes s) b 0 ≡ c)
-    out i h e q =
-        let u : i / 2 ≡ s = cc in
-        let v : i % 2 ≡ b = cc in (
-          omega (arith, prefixes-length),
-          omega arith,
-          row-at 2 prefixes s b (omega arith) ∙ ap (λ (n : ℕ). getD prefixes n 0) (omega arith) ∙ e,
-        )
-
-    into : (s < 64) × (b < 2) × (getD (row 2 prefixes s) b 0 ≡ c) → openingSays (openingOf c) ≡ s ∷ b ∷ []
-    into q =
-        opening-says c
-        ∙ look-at (List ℕ) openAt [] prefixes c prefixes-distinct (2 * s + b) (omega (arith, prefixes-length))
-        (sym (row-at 2 prefixes s b (q .1)) ∙ q .2)
-        ∙ ap₂ (λ (x y : ℕ). x ∷ y ∷ []) (omega arith) (omega arith)
+    found : (openingSays (openingOf c) ≡ s ∷ b ∷ [])
+        ↔ ((i : ℕ) × (i < length prefixes) × (getD prefixes i 0 ≡ c) × (openingSays (openAt i) ≡ s ∷ b ∷ []))
+    found = says-iff Opening openingSays openAt NoState refl loud-open prefixes c prefixes-distinct (s ∷ b ∷ []) (some s (b ∷ []))
 
 pub opening-none : (c1 : ℕ) → (openingSays (openingOf c1) ≡ []) ↔ ((s8 b1 : ℕ) → s8 < 64 → b1 < 2 → prefixOf s8 b1 ≡ c1 → ⊥)
-unfolding prefixOf
-opening-none c = (
-  λ e s b h k q.
-      look-missing (List ℕ) openAt [] prefixes c (λ i u. no-values (i / 2) ((i % 2) ∷ []) (sym u)) (sym (opening-says c) ∙ e) (2 * s + b)
-      (omega (arith, prefixes-length)) (sym (row-at 2 prefixes s b k) ∙ q),
-  λ n. opening-says c ∙ look-none (List ℕ) openAt [] prefixes c
-      (λ i h e. n (i / 2) (i % 2) (omega (arith, prefixes-length)) (omega arith)
-      (row-at 2 prefixes (i / 2) (i % 2) (omega arith) ∙ ap (λ (m : ℕ). getD prefixes m 0) (omega arith) ∙ e)),
-)
+unfolding openingOf
+opening-none c =
+    let r = says-none Opening openingSays openAt NoState refl loud-open prefixes c in (
+      λ e s b h k q. r .0 e (2 * s + b) (omega (arith, prefixes-length)) (sym (at-place s b k) ∙ q),
+      λ n. r .1 (λ i h e. n (i / 2) (i % 2) (omega (arith, prefixes-length)) (omega arith) (place-at i ∙ e)),
+    )
 
 -- ---- rows of a table: what stands in one stands in the table
 row-in : (n : ℕ) (t : List ℕ) (s b : ℕ) → b < length (row n t s) → (b < n) × (n * s + b < length t)
@@ -118,44 +122,40 @@ unfolding middleOf
 middle-distinct s h a b ha hb e =
     middles-distinct s a b (in-row 16 middles s a ha (omega (arith, middles-length))) (in-row 16 middles s b hb (omega (arith, middles-length))) e
 
-abbrev passAt : ℕ → ℕ → List ℕ
-passAt s b = b ∷ nextOf s b ∷ []
+module _ (s8 c2 : ℕ) where
+  abbrev alongAt : ℕ → Passage
+  alongAt b2 = Along b2 (nextOf s8 b2)
 
-passage-says : (s8 c2 : ℕ) → passageSays (passageOf s8 c2) ≡ lookUp (passAt s8) [] (row 16 middles s8) c2
-unfolding passageOf
-passage-says s c = look-map Passage (List ℕ) passageSays (λ (b : ℕ). Along b (nextOf s b)) NoBranch (row 16 middles s) c
+  loud-along : (b2 : ℕ) → passageSays (alongAt b2) ≡ [] → ⊥
+  loud-along b2 = some b2 (nextOf s8 b2 ∷ [])
 
-pub passage-iff : (s8 c2 b2 s16 : ℕ)
-    → (passageSays (passageOf s8 c2) ≡ b2 ∷ s16 ∷ []) ↔ ((s8 < 64) × (b2 < 16) × (middleOf s8 b2 ≡ c2) × (nextOf s8 b2 ≡ s16))
-unfolding middleOf
-passage-iff s c b t =
-    (λ e. look-out (List ℕ) (passAt s) [] (row 16 middles s) c (b ∷ t ∷ []) _ (no-values b (t ∷ [])) out (sym (passage-says s c) ∙ e), into)
-  where
-    out : (i : ℕ) → i < length (row 16 middles s) → getD (row 16 middles s) i 0 ≡ c → i ∷ nextOf s i ∷ [] ≡ b ∷ t ∷ []
-        → (s < 64) × (b < 16) × (getD (row 16 middles s) b 0 ≡ c) × (nextOf s b ≡ t)
-    out i h e q =
-        let u : i ≡ b = cc in
-        let v : nextOf s i ≡ t = cc in
-        let r = row-in 16 middles s i h in
-        (omega (arith, r .1, middles-length), omega (arith, r .0), rw (← u) e, rw (← u) v)
+  pub passage-iff : (b2 s16 : ℕ)
+      → (passageSays (passageOf s8 c2) ≡ b2 ∷ s16 ∷ []) ↔ ((s8 < 64) × (b2 < 16) × (middleOf s8 b2 ≡ c2) × (nextOf s8 b2 ≡ s16))
+  unfolding passageOf middleOf
+  passage-iff b t = (
+    λ e.
+        let q = found .0 e in
+        let i = q .0 in
+        let v : i ∷ nextOf s8 i ∷ [] ≡ b ∷ t ∷ [] = q .3 in
+        let eb : i ≡ b = cc in
+        let et : nextOf s8 i ≡ t = cc in
+        let r = row-in 16 middles s8 i (q .1) in
+        (omega (arith, r .1, middles-length), omega (arith, r .0), rw (← eb) (q .2), rw (← eb) et),
+    λ q. found .1 (b, in-row 16 middles s8 b (q .1) (omega (arith, middles-length)), q .2, ap (λ (x : ℕ). b ∷ x ∷ []) (q .3)),
+  )
+    where
+      found : (passageSays (passageOf s8 c2) ≡ b ∷ t ∷ [])
+          ↔ ((i : ℕ) × (i < length (row 16 middles s8)) × (getD (row 16 middles s8) i 0 ≡ c2) × (passageSays (alongAt i) ≡ b ∷ t ∷ []))
+      found =
+          says-iff Passage passageSays alongAt NoBranch refl loud-along (row 16 middles s8) c2 (middles-distinct s8) (b ∷ t ∷ []) (some b (t ∷ []))
 
-    into : (s < 64) × (b < 16) × (getD (row 16 middles s) b 0 ≡ c) × (nextOf s b ≡ t) → passageSays (passageOf s c) ≡ b ∷ t ∷ []
-    into q =
-        passage-says s c
-        ∙ look-at (List ℕ) (passAt s) [] (row 16 middles s) c (middles-distinct s) b
-        (in-row 16 middles s b (q .1) (omega (arith, middles-length))) (q .2)
-        ∙ ap (λ (x : ℕ). b ∷ x ∷ []) (q .3)
-
-pub passage-none : (s8 c2 : ℕ)
-    → (passageSays (passageOf s8 c2) ≡ []) ↔ ((b2 : ℕ) → s8 < 64 → b2 < 16 → middleOf s8 b2 ≡ c2 → ⊥)
-unfolding middleOf
-passage-none s c = (
-  λ e b h k q.
-      look-missing (List ℕ) (passAt s) [] (row 16 middles s) c (λ i u. no-values i (nextOf s i ∷ []) (sym u)) (sym (passage-says s c) ∙ e) b
-      (in-row 16 middles s b k (omega (arith, middles-length))) q,
-  λ n. passage-says s c ∙ look-none (List ℕ) (passAt s) [] (row 16 middles s) c
-      (λ i h e. let r = row-in 16 middles s i h in n i (omega (arith, r .1, middles-length)) (r .0) e),
-)
+  pub passage-none : (passageSays (passageOf s8 c2) ≡ []) ↔ ((b2 : ℕ) → s8 < 64 → b2 < 16 → middleOf s8 b2 ≡ c2 → ⊥)
+  unfolding passageOf middleOf
+  passage-none =
+      let r = says-none Passage passageSays alongAt NoBranch refl loud-along (row 16 middles s8) c2 in (
+        λ e b h k q. r .0 e b (in-row 16 middles s8 b k (omega (arith, middles-length))) q,
+        λ n. r .1 (λ i h e. let l = row-in 16 middles s8 i h in n i (omega (arith, l .1, middles-length)) (l .0) e),
+      )
 
 -- ---- a suffix byte
 suffixes-distinct : (s16 : ℕ) → Distinct (row 2 suffixes s16)
@@ -168,39 +168,34 @@ suffixes-distinct s =
     let v : j ≡ 1 = omega (arith, q .0) in
     rw (u, v) (suffix-pair s (omega (arith, q .1, suffixes-length)) .0))
 
-abbrev closeAt : ℕ → List ℕ
-closeAt b = b ∷ []
+module _ (s16 c3 : ℕ) where
+  loud-by : (b3 : ℕ) → closingSays (By b3) ≡ [] → ⊥
+  loud-by b3 = some b3 []
 
-closing-says : (s16 c3 : ℕ) → closingSays (closingOf s16 c3) ≡ lookUp closeAt [] (row 2 suffixes s16) c3
-unfolding closingOf
-closing-says s c = look-map Closing (List ℕ) closingSays By NoSuffix (row 2 suffixes s) c
+  pub closing-iff : (b3 : ℕ) → (closingSays (closingOf s16 c3) ≡ b3 ∷ []) ↔ ((s16 < 64) × (b3 < 2) × (suffixOf s16 b3 ≡ c3))
+  unfolding closingOf suffixOf
+  closing-iff b = (
+    λ e.
+        let q = found .0 e in
+        let i = q .0 in
+        let v : i ∷ [] ≡ b ∷ [] = q .3 in
+        let eb : i ≡ b = cc in
+        let r = row-in 2 suffixes s16 i (q .1) in
+        (omega (arith, r .1, suffixes-length), omega (arith, r .0), rw (← eb) (q .2)),
+    λ q. found .1 (b, in-row 2 suffixes s16 b (q .1) (omega (arith, suffixes-length)), q .2, refl),
+  )
+    where
+      found : (closingSays (closingOf s16 c3) ≡ b ∷ [])
+          ↔ ((i : ℕ) × (i < length (row 2 suffixes s16)) × (getD (row 2 suffixes s16) i 0 ≡ c3) × (closingSays (By i) ≡ b ∷ []))
+      found = says-iff Closing closingSays By NoSuffix refl loud-by (row 2 suffixes s16) c3 (suffixes-distinct s16) (b ∷ []) (some b [])
 
-pub closing-iff : (s16 c3 b3 : ℕ) → (closingSays (closingOf s16 c3) ≡ b3 ∷ []) ↔ ((s16 < 64) × (b3 < 2) × (suffixOf s16 b3 ≡ c3))
-unfolding suffixOf
-closing-iff s c b = (λ e. look-out (List ℕ) closeAt [] (row 2 suffixes s) c (b ∷ []) _ (no-values b []) out (sym (closing-says s c) ∙ e), into)
-  where
-    out : (i : ℕ) → i < length (row 2 suffixes s) → getD (row 2 suffixes s) i 0 ≡ c → i ∷ [] ≡ b ∷ []
-        → (s < 64) × (b < 2) × (getD (row 2 suffixes s) b 0 ≡ c)
-    out i h e q =
-        let u : i ≡ b = cc in
-        let r = row-in 2 suffixes s i h in
-        (omega (arith, r .1, suffixes-length), omega (arith, r .0), rw (← u) e)
-
-    into : (s < 64) × (b < 2) × (getD (row 2 suffixes s) b 0 ≡ c) → closingSays (closingOf s c) ≡ b ∷ []
-    into q =
-        closing-says s c
-        ∙ look-at (List ℕ) closeAt [] (row 2 suffixes s) c (suffixes-distinct s) b
-        (in-row 2 suffixes s b (q .1) (omega (arith, suffixes-length))) (q .2)
-
-pub closing-none : (s16 c3 : ℕ) → (closingSays (closingOf s16 c3) ≡ []) ↔ ((b3 : ℕ) → s16 < 64 → b3 < 2 → suffixOf s16 b3 ≡ c3 → ⊥)
-unfolding suffixOf
-closing-none s c = (
-  λ e b h k q.
-      look-missing (List ℕ) closeAt [] (row 2 suffixes s) c (λ i u. no-values i [] (sym u)) (sym (closing-says s c) ∙ e) b
-      (in-row 2 suffixes s b k (omega (arith, suffixes-length))) q,
-  λ n. closing-says s c ∙ look-none (List ℕ) closeAt [] (row 2 suffixes s) c
-      (λ i h e. let r = row-in 2 suffixes s i h in n i (omega (arith, r .1, suffixes-length)) (r .0) e),
-)
+  pub closing-none : (closingSays (closingOf s16 c3) ≡ []) ↔ ((b3 : ℕ) → s16 < 64 → b3 < 2 → suffixOf s16 b3 ≡ c3 → ⊥)
+  unfolding closingOf suffixOf
+  closing-none =
+      let r = says-none Closing closingSays By NoSuffix refl loud-by (row 2 suffixes s16) c3 in (
+        λ e b h k q. r .0 e b (in-row 2 suffixes s16 b k (omega (arith, suffixes-length))) q,
+        λ n. r .1 (λ i h e. let l = row-in 2 suffixes s16 i h in n i (omega (arith, l .1, suffixes-length)) (l .0) e),
+      )
 
 -- ---- a codeword
 codewords-length : length codewords ≡ 4096
@@ -216,10 +211,6 @@ codewords-distinct i j h k e =
     let hi : i < 4096 = omega (arith, codewords-length) in
     let hj : j < 4096 = omega (arith, codewords-length) in
     distinct i j hi hj (sym (codewords-at i hi) ∙ e ∙ codewords-at j hj)
-
-pub label-le : (w : ℕ) → labelOf w ≤ 4096
-unfolding labelOf
-label-le w = rw codewords-length at (seek-le w codewords)
 
 pub label-word : (w : ℕ) → labelOf w < 4096 → wordOf columns (labelOf w) ≡ w
 unfolding labelOf
@@ -257,8 +248,8 @@ parts-label x = sum _ _ _ _ _ _ _ (mod-pow-add x 1 6) (mod-pow-add x 4 7) (mod-p
 pub path-word : (s8 b1 b2 b3 : ℕ) → s8 < 64 → b1 < 2 → b2 < 16 → b3 < 2 → wordOf columns (label s8 b1 b2 b3) ≡ path s8 b1 b2 b3
 path-word s8 b1 b2 b3 h1 h2 h3 h4 =
     let q = label-parts s8 b1 b2 b3 h1 h2 h3 h4 in
-    path-at (label s8 b1 b2 b3)
-    ∙ ap₂ (λ (s b : ℕ). path s b (b2Of (label s8 b1 b2 b3)) (b3Of (label s8 b1 b2 b3))) (q .0) (q .1) ∙ ap₂ (λ (b d : ℕ). path s8 b1 b d) (q .2) (q .3)
+    let x = label s8 b1 b2 b3 in
+    path-at x ∙ ap₂ (λ (s b : ℕ). path s b (b2Of x) (b3Of x)) (q .0) (q .1) ∙ ap₂ (λ (b d : ℕ). path s8 b1 b d) (q .2) (q .3)
 
 -- the sections of a codeword lead back along its path
 pub walk-back : (x : ℕ) → (openingOf (first (wordOf columns x)) ≡ From (s8Of x) (b1Of x))

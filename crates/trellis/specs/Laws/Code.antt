@@ -11,8 +11,9 @@ use lib.Dec.{T, eqb, leb, eqb→eq, leb→le}
 use lib.Bits.{bitXor, xor-lt}
 use Rattle.laws.specs.Tests.{or-else, or-cases, split3}
 use Rattle.laws.specs.Tables.{every}
-use Rattle.laws.specs.Xor.{xor-zero}
-use Rattle.trellis.specs.Code.{wordOf, columns, codewords, weight, tally, first, second, third}
+use Rattle.laws.specs.Bits.{weight}
+use Rattle.trellis.specs.Laws.Xor.{xor-zero}
+use Rattle.trellis.specs.Code.{wordOf, columns, codewords, tally, first, second, third}
 use Rattle.trellis.specs.Laws.Linear.{linear, compose, powers, powers-word, word-low, word-below}
 use Rattle.trellis.specs.Laws.Words.{words, codewords-are, at-word}
 

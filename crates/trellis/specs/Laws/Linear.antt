@@ -12,7 +12,7 @@ use lib.ListN.{length}
 use lib.Pow.{pow-pos, pow-lt, field, mod-pow-add, mod-mod-pow}
 use lib.Bits.{bitXor, xor-lt, xor-comm, xor-shifted}
 use Rattle.laws.specs.Tests.{and-left, and-right}
-use Rattle.laws.specs.Xor.{xor-half, xor-odd, xor-swap, xor-times}
+use Rattle.trellis.specs.Laws.Xor.{xor-half, xor-odd, xor-swap, xor-times}
 use Rattle.trellis.specs.Code.{wordOf}
 
 bit : (x : ℕ) → x % 2 < 2

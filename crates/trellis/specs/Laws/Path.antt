@@ -1,6 +1,6 @@
 -- Each codeword is its path through the tables; the bytes of a state ascend, its two prefixes and its two suffixes are complementary.
 -- Assumes nothing.
-use mathlib.Core.Path.{_≡_, _∙_, subst, sym, refl, ap, ap₂}
+use mathlib.Core.Path.{_≡_, _∙_, sym, refl, ap, ap₂}
 use mathlib.Core.Bool.{Bool, true, false, _&&_}
 use mathlib.Core.List.{List, [], _∷_}
 use Prim.Native.Nat.{ℕ, zero, suc, _+_, _*_, _%_, _^_, _<_, _≤_}
@@ -29,7 +29,7 @@ row-at n t s b h = getD-take n (drop (n * s) t) b 0 h ∙ getD-drop (n * s) t b 
 pub row-length : (n : ℕ) (t : List ℕ) (s : ℕ) → n * s + n ≤ length t → length (row n t s) ≡ n
 row-length n t s h = length-take-le n (drop (n * s) t) (omega (arith, length-drop (n * s) t))
 
-pub row-none : (n : ℕ) (t : List ℕ) (s : ℕ) → length t ≤ n * s → row n t s ≡ []
+row-none : (n : ℕ) (t : List ℕ) (s : ℕ) → length t ≤ n * s → row n t s ≡ []
 row-none n t s h = ap (take n) (drop-of-length-le t h) ∙ take-nil n
 
 -- past the end of the table, and past the end of a row, is 0
@@ -40,18 +40,18 @@ pub row-past : (n : ℕ) (t : List ℕ) (s b : ℕ) → n ≤ b → getD (row n 
 row-past n t s b h =
     List·getD-eq-default (row n t s) 0 (omega (arith, length-take n (drop (n * s) t), min-le-left n (length (drop (n * s) t))))
 
--- every entry of a row is an entry of the table, or 0
-row-entry : (P : ℕ → Type 0) (n : ℕ) (t : List ℕ) (s b : ℕ) → P 0 → ((i : ℕ) → P (getD t i 0)) → P (getD (row n t s) b 0)
-row-entry P n t s b z p = go (ltb b n) refl
-  where
-    go : (q : Bool) → ltb b n ≡ q → P (getD (row n t s) b 0)
-    go true e = rw (row-at n t s b (ltb-true b n e)) (p (n * s + b))
-    go false e = subst P (sym (row-past n t s b (ltb-false b n e))) z
-
+-- where every entry of the table is below 2 ^ k, so is every entry of a row
 entry-lt : (k : ℕ) (t : List ℕ) → T (allBelow k t) → (i : ℕ) → getD t i 0 < 2 ^ k
 entry-lt k [] a i = pow-pos k
 entry-lt k (x ∷ t) a zero = ltb→lt x (2 ^ k) (and-left (ltb x (2 ^ k)) (allBelow k t) a)
 entry-lt k (x ∷ t) a (suc i) = entry-lt k t (and-right (ltb x (2 ^ k)) (allBelow k t) a) i
+
+row-lt : (k n : ℕ) (t : List ℕ) → T (allBelow k t) → (s b : ℕ) → getD (row n t s) b 0 < 2 ^ k
+row-lt k n t a s b = go (ltb b n) refl
+  where
+    go : (q : Bool) → ltb b n ≡ q → getD (row n t s) b 0 < 2 ^ k
+    go true e = rw (row-at n t s b (ltb-true b n e)) (entry-lt k t a (n * s + b))
+    go false e = rw (row-past n t s b (ltb-false b n e)) (pow-pos k)
 
 -- ---- 64 rows each
 pub prefixes-length : length prefixes ≡ 128
@@ -71,37 +71,21 @@ unfolding suffixes
 suffixes-length = refl
 
 -- ---- bytes are below 256, states below 64
-prefixes-below : T (allBelow 8 prefixes)
-unfolding prefixes
-prefixes-below = tt
-
-middles-below : T (allBelow 8 middles)
-unfolding middles
-middles-below = tt
-
-nexts-below : T (allBelow 6 nexts)
-unfolding nexts
-nexts-below = tt
-
-suffixes-below : T (allBelow 8 suffixes)
-unfolding suffixes
-suffixes-below = tt
-
 pub prefix-lt : (s8 b1 : ℕ) → prefixOf s8 b1 < 256
-unfolding prefixOf
-prefix-lt s b = row-entry (λ (x : ℕ). x < 256) 2 prefixes s b (pow-pos 8) (entry-lt 8 prefixes prefixes-below)
+unfolding prefixOf prefixes
+prefix-lt = row-lt 8 2 prefixes tt
 
 pub middle-lt : (s8 b2 : ℕ) → middleOf s8 b2 < 256
-unfolding middleOf
-middle-lt s b = row-entry (λ (x : ℕ). x < 256) 16 middles s b (pow-pos 8) (entry-lt 8 middles middles-below)
+unfolding middleOf middles
+middle-lt = row-lt 8 16 middles tt
 
 pub next-lt : (s8 b2 : ℕ) → nextOf s8 b2 < 64
-unfolding nextOf
-next-lt s b = row-entry (λ (x : ℕ). x < 64) 16 nexts s b (pow-pos 6) (entry-lt 6 nexts nexts-below)
+unfolding nextOf nexts
+next-lt = row-lt 6 16 nexts tt
 
 pub suffix-lt : (s16 b3 : ℕ) → suffixOf s16 b3 < 256
-unfolding suffixOf
-suffix-lt s b = row-entry (λ (x : ℕ). x < 256) 2 suffixes s b (pow-pos 8) (entry-lt 8 suffixes suffixes-below)
+unfolding suffixOf suffixes
+suffix-lt = row-lt 8 2 suffixes tt
 
 -- ---- each word is its path: one test along the words, the tables read as trees
 prefixTree : Tree

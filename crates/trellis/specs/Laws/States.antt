@@ -13,7 +13,7 @@ use lib.Bits.{bitXor, xor-comm, xor-self, xor-zero-r, xor-shifted}
 use Rattle.laws.specs.Tests.{and-left, and-right, split3, implies, modus, eq→eqb, or-left, or-right}
 use Rattle.laws.specs.Tables.{every, at, ascBy, asc-lt}
 use Rattle.laws.specs.Trees.{Tree, build, get, get-build}
-use Rattle.laws.specs.Xor.{xor-zero}
+use Rattle.trellis.specs.Laws.Xor.{xor-zero}
 use Rattle.trellis.specs.Code.{wordOf, columns}
 use Rattle.trellis.specs.Trellis.{s8Of, b2Of, s16Of, nextOf}
 use Rattle.trellis.specs.Cuts.{OneSide, Sum, none, plus, Share, Numbered}
@@ -108,7 +108,8 @@ module _ (cut k : ℕ) (state : ℕ → ℕ) (cs ls : List ℕ) (tree : Tree)
   share-from x y s =
       let r = sum-zero s in
       xor-zero (state x) (state y)
-      (sym (sums x y) ∙ sym (low (bitXor x y)) ∙ ap state (sym (same-label (r .0) (bitXor x y) (r .1 ∙ sym (linear columns x y)))) ∙ low (r .0) ∙ r .2)
+      (sym (sums x y) ∙ sym (low (bitXor x y)) ∙ ap state (sym (same-label (r .0) (bitXor x y) (r .1 ∙ sym (linear columns x y))))
+      ∙ low (r .0) ∙ r .2)
 
   share-iff : (x y : ℕ) → (state x ≡ state y) ↔ Share cut (wordOf columns x) (wordOf columns y)
   share-iff x y = (share-to x y, share-from x y)

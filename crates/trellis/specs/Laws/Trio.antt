@@ -7,7 +7,8 @@ use lib.ListN.{length, getD}
 use lib.Bits.{bitAnd, bitOr}
 use Rattle.laws.specs.Tests.{split4, upto, below}
 use Rattle.laws.specs.Lists.{tab, tab-length, seek}
-use Rattle.trellis.specs.Code.{wordOf, columns, weight}
+use Rattle.laws.specs.Bits.{weight}
+use Rattle.trellis.specs.Code.{wordOf, columns}
 use Rattle.trellis.specs.Trio.{octad1, octad2, octad3, order, places}
 
 pub order-length : length order ≡ 24

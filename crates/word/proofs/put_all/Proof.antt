@@ -1,6 +1,7 @@
 -- `put_all`: each field goes above those that lie below it. Assumes nothing.
 use native.Mathlib.Omega.{arith}
 use borrow.Author.Needs.{needs}
+use Rattle.word.specs.Word.{Narrow}
 use Rattle.word.proofs.put_all.Statement.{statement}
 use Rattle.word.proofs.put_all.Tie as tie
 
@@ -44,26 +45,29 @@ cast-put-7 : tie.Need-cast-put-7
 cast-put-7 c = search needs
 
 -- from here on omega does not look back as far as what the function requires
+fit6 : (c : tie.After-put6) → Narrow (c .before .before .before .before .before .before .before .before .before .before .before .before .args .f)
+fit6 c = c .before .before .before .before .before .before .before .before .before .before .before .before .pre
+
 put-requires-7 : tie.Need-put-requires-7
-put-requires-7 c κs = omega (arith, c .before .before .before .before .before .before .before .before .before .before .before .before .before .pre)
+put-requires-7 c κs = omega (arith, fit6 (c .before))
 
 cast-put-8 : tie.Need-cast-put-8
 cast-put-8 c = search needs
 
 put-requires-8 : tie.Need-put-requires-8
-put-requires-8 c κs = omega (arith, c .before .before .before .before .before .before .before .before .before .before .before .before .before .before .before .pre)
+put-requires-8 c κs = omega (arith, fit6 (c .before .before .before))
 
 cast-put-9 : tie.Need-cast-put-9
 cast-put-9 c = search needs
 
 put-requires-9 : tie.Need-put-requires-9
-put-requires-9 c κs = omega (arith, c .before .before .before .before .before .before .before .before .before .before .before .before .before .before .before .before .before .pre)
+put-requires-9 c κs = omega (arith, fit6 (c .before .before .before .before .before))
 
 cast-put-10 : tie.Need-cast-put-10
 cast-put-10 c = search needs
 
 put-requires-10 : tie.Need-put-requires-10
-put-requires-10 c κs = omega (arith, c .before .before .before .before .before .before .before .before .before .before .before .before .before .before .before .before .before .before .before .pre)
+put-requires-10 c κs = omega (arith, fit6 (c .before .before .before .before .before .before .before))
 
 returns : tie.Need-returns
 returns c =
