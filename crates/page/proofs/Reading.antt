@@ -53,14 +53,17 @@ byByte most v j b rest =
 
 -- a digit, where x is what the text is read as: the number grows past `most`, or the digit stands behind a leading zero, or it is one more
 module _ (j most v b : ℕ) (rest x : Line) (e : x ≡ byByte most v j b rest) (h : 48 ≤ b) (k : b ≤ 57) where
+  digit : x ≡ cond (ltb most (v * 10 + (b - 48))) Bad (cond (ltb 0 j && eqb v 0) Bad rest)
+  digit = e ∙ rw (ne-eqb b 10 (λ q. omega arith), le-ltb b 48 h, le-ltb 57 b k)
+
   pub too-large : most < v * 10 + (b - 48) → Bad ≡ x
-  too-large l = sym (e ∙ rw (ne-eqb b 10 (λ q. omega arith), le-ltb b 48 h, le-ltb 57 b k, lt-ltb most (v * 10 + (b - 48)) l))
+  too-large l = sym (digit ∙ rw (lt-ltb most (v * 10 + (b - 48)) l))
 
   pub behind-zero : v * 10 + (b - 48) ≤ most → (ltb 0 j && eqb v 0) ≡ true → Bad ≡ x
-  behind-zero l z = sym (e ∙ rw (ne-eqb b 10 (λ q. omega arith), le-ltb b 48 h, le-ltb 57 b k, le-ltb most (v * 10 + (b - 48)) l, z))
+  behind-zero l z = sym (digit ∙ rw (le-ltb most (v * 10 + (b - 48)) l, z))
 
   pub one-more : v * 10 + (b - 48) ≤ most → (ltb 0 j && eqb v 0) ≡ false → rest ≡ x
-  one-more l z = sym (e ∙ rw (ne-eqb b 10 (λ q. omega arith), le-ltb b 48 h, le-ltb 57 b k, le-ltb most (v * 10 + (b - 48)) l, z))
+  one-more l z = sym (digit ∙ rw (le-ltb most (v * 10 + (b - 48)) l, z))
 
 pub decimal-step : (most v j : ℕ) (s : List ℕ) → j < length s
     → decimalAt most v j (drop j s)

@@ -103,11 +103,7 @@ longest text num words p =
 
 -- so a text of 1,190 bytes or more is no page, and its first 1,190 bytes tell as much
 too-long : (text : List ℕ) → 1190 ≤ length text → readingOf text ≡ malformed
-too-long text h = go (readingOf text) refl
-  where
-    go : (R : Reading) → readingOf text ≡ R → R ≡ malformed
-    go (page num words) e = absurd (omega (arith, longest text num words (only-pages text num words e)))
-    go malformed e = refl
+too-long text h = one-reading text (readingOf text) malformed (reads text) (λ num words p. omega (arith, longest text num words p))
 
 pub start-tells : (text : List ℕ) → readingOf (take 1190 text) ≡ readingOf text
 start-tells text = go (ltb (length text) 1190) refl
