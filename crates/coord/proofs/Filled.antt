@@ -47,6 +47,20 @@ pub record Ones (e : List Coord) (regret : List Float) (odd : List ℕ) (up : Li
   pub odds : Upto ℕ 0 (oddAt e) 128 odd i
   pub ups : Upto Bool false (upAt e) 128 up i
 
+module _ (e : List Coord) (regret : List Float) (odd : List ℕ) (up : List Bool) where
+  pub ones-none : length regret ≡ 128 → length odd ≡ 128 → length up ≡ 128 → Ones e regret odd up 0
+  ones-none hr ho hu = record { regrets = none _ _ _ _ _ hr; odds = none _ _ _ _ _ ho; ups = none _ _ _ _ _ hu }
+
+  pub ones-more : (i : ℕ) (c : Coord) {o : ℕ} {b : Bool} → i < 128 → c ≡ coordAt e i → o ≡ modZ (c .k0) 2 → b ≡ ltZ (pos 0) (c .dir)
+      → Ones e regret odd up i → Ones e (set regret i (c .regret)) (set odd i o) (set up i b) (i + 1)
+  ones-more i c h hc ho hb s =
+      let next : i + 1 ≡ i + 1 = omega arith in
+      record {
+        regrets = more Float nan (regretAt e) 128 regret i (i + 1) next h (ap (λ (x : Coord). x .regret) hc) (s .regrets);
+        odds = more ℕ 0 (oddAt e) 128 odd i (i + 1) next h (ho ∙ ap (λ (x : Coord). modZ (x .k0) 2) hc) (s .odds);
+        ups = more Bool false (upAt e) 128 up i (i + 1) next h (hb ∙ ap (λ (x : Coord). ltZ (pos 0) (x .dir)) hc) (s .ups);
+      }
+
 -- ---- the rows of five places a record
 abbrev distAt : List Coord → ℕ → ℕ → Float
 distAt e a f = getD (coordAt e a .d) f nan
@@ -72,52 +86,41 @@ slot-is A g i f l =
     let r : f ≡ (5 * i + f) % 5 = omega arith in
     ap₂ g q r
 
--- ---- none, one more, all
-module _ (e : List Coord) (regret dist : List Float) (weight rank odd : List ℕ) (up : List Bool) where
-  pub ones-none : length regret ≡ 128 → length odd ≡ 128 → length up ≡ 128 → Ones e regret odd up 0
-  ones-none hr ho hu = record { regrets = none _ _ _ _ _ hr; odds = none _ _ _ _ _ ho; ups = none _ _ _ _ _ hu }
-
+module _ (e : List Coord) (dist : List Float) (weight rank : List ℕ) where
   pub fives-none : length dist ≡ 640 → length weight ≡ 640 → length rank ≡ 640 → Fives e dist weight rank 0
   fives-none hd hw hr = record { dists = none _ _ _ _ _ hd; weights = none _ _ _ _ _ hw; ranks = none _ _ _ _ _ hr }
 
-  module _ (i : ℕ) (c : Coord) (h : i < 128) (hc : c ≡ coordAt e i) where
-    pub ones-more : {o : ℕ} {b : Bool} → o ≡ modZ (c .k0) 2 → b ≡ ltZ (pos 0) (c .dir) → Ones e regret odd up i
-        → Ones e (set regret i (c .regret)) (set odd i o) (set up i b) (i + 1)
-    ones-more ho hb s =
-        let next : i + 1 ≡ i + 1 = omega arith in
-        record {
-          regrets = more Float nan (regretAt e) 128 regret i (i + 1) next h (ap (λ (x : Coord). x .regret) hc) (s .regrets);
-          odds = more ℕ 0 (oddAt e) 128 odd i (i + 1) next h (ho ∙ ap (λ (x : Coord). modZ (x .k0) 2) hc) (s .odds);
-          ups = more Bool false (upAt e) 128 up i (i + 1) next h (hb ∙ ap (λ (x : Coord). ltZ (pos 0) (x .dir)) hc) (s .ups);
-        }
+  pub fives-more : (i f : ℕ) (c : Coord) → i < 128 → f < 5 → c ≡ coordAt e i → Fives e dist weight rank (5 * i + f)
+      → Fives e (set dist (5 * i + f) (getD (c .d) f nan)) (set weight (5 * i + f) (getD (c .w) f 0)) (set rank (5 * i + f) (getD (c .rank) f 0))
+      (5 * i + (f + 1))
+  fives-more i f c h l hc s =
+      let k = 5 * i + f in
+      let next : 5 * i + (f + 1) ≡ k + 1 = omega arith in
+      let d = ap (λ (x : Coord). getD (x .d) f nan) hc ∙ slot-is Float (distAt e) i f l in
+      let w = ap (λ (x : Coord). getD (x .w) f 0) hc ∙ slot-is ℕ (weightAt e) i f l in
+      let r = ap (λ (x : Coord). getD (x .rank) f 0) hc ∙ slot-is ℕ (rankAt e) i f l in
+      record {
+        dists = more Float nan (byFive (distAt e)) 640 dist k (5 * i + (f + 1)) next (omega arith) d (s .dists);
+        weights = more ℕ 0 (byFive (weightAt e)) 640 weight k (5 * i + (f + 1)) next (omega arith) w (s .weights);
+        ranks = more ℕ 0 (byFive (rankAt e)) 640 rank k (5 * i + (f + 1)) next (omega arith) r (s .ranks);
+      }
 
-    pub fives-more : (f : ℕ) → f < 5 → Fives e dist weight rank (5 * i + f)
-        → Fives e (set dist (5 * i + f) (getD (c .d) f nan)) (set weight (5 * i + f) (getD (c .w) f 0)) (set rank (5 * i + f) (getD (c .rank) f 0))
-        (5 * i + (f + 1))
-    fives-more f l s =
-        let next : 5 * i + (f + 1) ≡ 5 * i + f + 1 = omega arith in
-        let k : 5 * i + f < 640 = omega arith in
-        record {
-          dists = more Float nan (byFive (distAt e)) 640 dist (5 * i + f) _ next k (ap (λ (x : Coord). getD (x .d) f nan) hc ∙ slot-is Float (distAt e) i f l) (s .dists);
-          weights = more ℕ 0 (byFive (weightAt e)) 640 weight (5 * i + f) _ next k (ap (λ (x : Coord). getD (x .w) f 0) hc ∙ slot-is ℕ (weightAt e) i f l) (s .weights);
-          ranks = more ℕ 0 (byFive (rankAt e)) 640 rank (5 * i + f) _ next k (ap (λ (x : Coord). getD (x .rank) f 0) hc ∙ slot-is ℕ (rankAt e) i f l) (s .ranks);
-        }
+-- ---- all six, and record i of the table
+pub rows-all : (e : List Coord) (regret dist : List Float) (weight rank odd : List ℕ) (up : List Bool) {i : ℕ} → i ≡ 128
+    → Ones e regret odd up i → Fives e dist weight rank (5 * i)
+    → _≡_ {A = Rows} (record { regret = regret; dist = dist; weight = weight; rank = rank; odd = odd; up = up }) (rowsOf e)
+unfolding rowsOf regretsOf distsOf weightsOf ranksOf oddsOf upsOf
+rows-all e regret dist weight rank odd up {i} q s v =
+    let p : 5 * i ≡ 640 = omega arith in
+    rw (
+      all Float nan (regretAt e) 128 regret q (s .regrets),
+      all Float nan (byFive (distAt e)) 640 dist p (v .dists),
+      all ℕ 0 (byFive (weightAt e)) 640 weight p (v .weights),
+      all ℕ 0 (byFive (rankAt e)) 640 rank p (v .ranks),
+      all ℕ 0 (oddAt e) 128 odd q (s .odds),
+      all Bool false (upAt e) 128 up q (s .ups),
+    )
 
-  pub rows-all : {i : ℕ} → i ≡ 128 → Ones e regret odd up i → Fives e dist weight rank (5 * i)
-      → _≡_ {A = Rows} (record { regret = regret; dist = dist; weight = weight; rank = rank; odd = odd; up = up }) (rowsOf e)
-  unfolding rowsOf regretsOf distsOf weightsOf ranksOf oddsOf upsOf
-  rows-all {i} q s v =
-      let p : 5 * i ≡ 640 = omega arith in
-      rw (
-        all Float nan (regretAt e) 128 regret q (s .regrets),
-        all Float nan (byFive (distAt e)) 640 dist p (v .dists),
-        all ℕ 0 (byFive (weightAt e)) 640 weight p (v .weights),
-        all ℕ 0 (byFive (rankAt e)) 640 rank p (v .ranks),
-        all ℕ 0 (oddAt e) 128 odd q (s .odds),
-        all Bool false (upAt e) 128 up q (s .ups),
-      )
-
--- record i of the table
 pub record-is : (ts : List Float) (p i : ℕ) → i < 128 → coordIn ts p i ≡ coordAt (tableOf ts p) i
 unfolding tableOf
 record-is ts p i h = sym (tab-at Coord noCoord (coordIn ts p) 128 i h)

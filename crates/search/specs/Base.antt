@@ -21,16 +21,16 @@ use Rattle.search.specs.Bound.{holds}
 abbrev pub slotOf : ℕ → ℕ → ℕ → ℕ
 slotOf j0 fix j = cond (eqb j j0) fix 2
 
--- the slot a step toward the target
+-- the slot a step toward the target: the Rust's 2 + dir
 abbrev pub towardOf : ℤ → ℕ
 towardOf dir = cond (ltZ (pos 0) dir) 3 1
 
--- the coordinate of largest regret among the first n, the lowest on a tie
+-- the coordinate of largest regret among the first n, the lowest on a tie. The Rust's loop starts at 1: 0 against itself changes nothing
 unfoldable pub worstTo : List Coord → ℕ → ℕ
 worstTo e zero = 0
 worstTo e (suc n) = cond (lt (coordAt e (worstTo e n) .regret) (coordAt e n .regret)) n (worstTo e n)
 
--- the parity of the sum of k0 over the first n
+-- the parity of the sum of k0 over the first n, turn by turn: the Rust takes the remainder of the whole sum
 unfoldable pub parTo : List Coord → ℕ → ℕ
 parTo e zero = 0
 parTo e (suc n) = (parTo e n + modZ (coordAt e n .k0) 2) % 2

@@ -63,7 +63,8 @@ endResolve g u ts kind p r st =
 abbrev pub midOf : Best → ℕ → Entry
 midOf b c = cond (b .met) (record { value = b .d; exact = true; byte = c; key = b .key }) infeasible
 
--- the rule on one byte, and once more with all eight shrinks where it met no member
+-- the rule on one byte, and once more with all eight shrinks where it met no member (the Rust leaves that out at a setting of 8, where it would be
+-- the same search again)
 unfoldable pub midResolve : Tables → Rule → List Float → ℕ → ℕ → ℕ → Entry
 midResolve g u ts p c d =
     cond (solve ts p c d (g .mixed) (u .mids) .met) (midOf (solve ts p c d (g .mixed) (u .mids)) c) (midOf (solve ts p c d (g .mixed) 8) c)
@@ -75,6 +76,7 @@ pub record Start : Type 0 where
   pub lb : Float
   pub loose : Bool
 
+-- one base more: a member replaces the entry where it is nearer, another lowers the bound
 abbrev pub withBase : Start → Best → ℕ → Start
 withBase s b c =
     cond (b .met) (record { ent = better (s .ent) b c; lb = s .lb; loose = s .loose })
@@ -85,6 +87,7 @@ abbrev pub settle : Start → Entry
 settle s =
     cond (s .loose && lt (s .lb) (s .ent .value)) (record { value = s .lb; exact = false; byte = s .ent .byte; key = s .ent .key }) (s .ent)
 
+-- the fallback, then the bases of both bytes of the state
 unfoldable pub endStart : Tables → List Float → ℕ → ℕ → ℕ → ℕ → Entry
 endStart g ts kind p r st =
     settle
@@ -93,6 +96,7 @@ endStart g ts kind p r st =
     (baseBest (classOf g r) (baseNow (row ts p (endByte g kind st 0) 0) r)) (endByte g kind st 0))
     (baseBest (classOf g r) (baseNow (row ts p (endByte g kind st 1) 0) r)) (endByte g kind st 1))
 
+-- the base of the byte, exact where it is a member
 unfoldable pub midStart : Tables → List Float → ℕ → ℕ → ℕ → Entry
 midStart g ts p c d =
     record {

@@ -21,7 +21,8 @@ noEntry = record { value = nan; exact = false; byte = 0; key = 0 }
 abbrev pub entAt : List Entry → ℕ → Entry
 entAt e i = getD e i noEntry
 
--- path t out of end entry i1 takes branch t / 2 and middle class t % 2: its middle entry, and its last, of class p xor r xor that
+-- path t out of end entry i1 takes branch t / 2 and middle class t % 2: its middle entry, and its last, of class p xor r xor that (the sum of the
+-- three modulo 2)
 abbrev pub midAt : Tables → ℕ → ℕ → ℕ
 midAt g i1 t = 2 * getD (g .ix) (i1 % 64 * 16 + t / 2) 0 + t % 2
 

@@ -58,6 +58,7 @@ pub record Seed : Type 0 where
   pub u : Float
   pub done : Bool
 
+-- f64::min: a, which is never a NaN, or b where that is less
 abbrev pub lower : Float → Float → Float
 lower a b = cond (lt b a) b a
 
@@ -109,7 +110,8 @@ closing g u t p s b =
 abbrev pub lastSides : Tables → Rule → Targets → ℕ → Seed → Sides
 lastSides g u t p s = closing g u t p (s .sides) (boundsTo g p (s .sides) (s .u) 4096)
 
--- ---- the winner of a parity: the best path through what is left
+-- ---- the winner of a parity: the best path through what is left, found where its cost is finite. The Rust's Winner names r and s8, which are
+-- i1 / 64 and i1 % 64, the middle class i2 % 2, and s16, which is i3 % 64
 abbrev pub winnerOf : ℕ → Sides → Way → Winner
 winnerOf p s w =
     record {

@@ -36,7 +36,8 @@ five f = f 0 ∷ f 1 ∷ f 2 ∷ f 3 ∷ f 4 ∷ []
 abbrev pub onLattice : Float → Float → ℕ → Float
 onLattice t shrink o = div binary64 (sub binary64 (mul binary64 t shrink) (ofInt binary64 (pos o))) four64
 
--- the record of a coordinate whose place on the lattice is z, kept within a million, and rounds to k: the distances are to the target before the shrink
+-- the record of a coordinate whose place on the lattice is z, kept within a million, and rounds to k. The distances are to the target before the
+-- shrink. The Rust reads a rank from a table of k from -8 to 8 and has 15 beyond it; there a rank is past 7, whose mark is 15 too
 abbrev pub coordFrom : Float → ℕ → Float → ℤ → Coord
 coordFrom t o z k =
     record {
@@ -48,6 +49,7 @@ coordFrom t o z k =
       d = five (λ f. sqTo (member o (slotK k f)) t);
     }
 
+-- `rounded` rounds what `clamped` gives, as the Rust does
 unfoldable pub coordOf : Float → Float → ℕ → Coord
 coordOf t shrink o = coordFrom t o (clamped (onLattice t shrink o)) (rounded (onLattice t shrink o))
 

@@ -37,7 +37,8 @@ abbrev pub keptBase : Closed → Now → Best → Best
 keptBase bound n best =
     cond (holds bound (n .cost) (n .key) && lt (n .dist) (best .d)) (record { d = n .dist; key = n .key; met = true }) best
 
--- ---- the sixteen paired steps: coordinate j, whose record is a, from slot f to fj; coordinate j2, whose record is b, from slot g to f2
+-- ---- the sixteen paired steps: coordinate j, whose record is a, from slot f to fj; coordinate j2, whose record is b, from slot g to f2. Distance,
+-- cost and row after one are the Rust's d2, c2 and k2
 abbrev pub movedD : Coord → Coord → Float → ℕ → ℕ → ℕ → ℕ → Float
 movedD a b d f fj g f2 =
     add binary64 (add binary64 (sub binary64 (sub binary64 d (getD (a .d) f nan)) (getD (b .d) g nan)) (getD (a .d) fj nan)) (getD (b .d) f2 nan)
@@ -51,6 +52,7 @@ keyMoved key j x j2 y =
     (bitOr (bitAnd key (2 ^ 32 - 1 - bitOr (15 * 2 ^ (4 * j) % 2 ^ 32) (15 * 2 ^ (4 * j2) % 2 ^ 32))) (x * 2 ^ (4 * j) % 2 ^ 32))
     (y * 2 ^ (4 * j2) % 2 ^ 32)
 
+-- passed over where it is no nearer; taken where it is a member
 unfoldable pub stepOf : Coord → Coord → Closed → Now → Best → ℕ → ℕ → ℕ → ℕ → ℕ → ℕ → Best
 stepOf a b bound n best j f fj j2 g f2 =
     cond (le (best .d) (movedD a b (n .dist) f fj g f2)) best
@@ -62,7 +64,7 @@ stepOf a b bound n best j f fj j2 g f2 =
 abbrev pub otherOf : ℕ → ℕ → ℕ → ℕ
 otherOf j j0 j1 = cond (eqb j j0) j1 j0
 
--- the second coordinate steps toward its target, but back to its rounding where it was repaired
+-- the slot f2 to which the second coordinate steps: toward its target, but back to its rounding where it was repaired
 abbrev pub secondOf : ℕ → ℤ → ℕ
 secondOf g dir = cond (eqb g 2) (towardOf dir) 2
 
@@ -96,7 +98,7 @@ unfoldable pub layersTo : List Float → ℕ → ℕ → ℕ → Closed → ℕ 
 layersTo ts p c want bound zero = layerOf (row ts p c 0) want bound unmet
 layersTo ts p c want bound (suc n) = layerOf (row ts p c (suc n)) want bound (layersTo ts p c want bound n)
 
--- n shrinks; a member base at the first ends the search
+-- n shrinks, of which the first is always done; a member base at the first ends the search
 unfoldable pub solve : List Float → ℕ → ℕ → ℕ → Closed → ℕ → Best
 solve ts p c want bound n =
     cond (firstBase (row ts p c 0) want bound .met) (firstBase (row ts p c 0) want bound) (layersTo ts p c want bound (n - 1))

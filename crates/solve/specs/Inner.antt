@@ -18,8 +18,8 @@ abbrev pub Apart : Top → ℕ → Type 0
 Apart t n = (t .j0 < n) × ((t .j1 < n) × (t .j0 ≡ t .j1 → ⊥))
 
 -- a slot that has a neighbour on both sides
-abbrev pub Inner : ℕ → Type 0
-Inner f = (1 ≤ f) × (f ≤ 3)
+abbrev pub Flanked : ℕ → Type 0
+Flanked f = (1 ≤ f) × (f ≤ 3)
 
 -- the cost holds the weights of each pair that a step takes out
 abbrev pub Covered : List ℕ → List ℕ → Top → ℕ → ℕ → Type 0
@@ -33,4 +33,4 @@ Covered weight at t fix cost =
 abbrev pub Ready : Start → List ℕ → List ℕ → Type 0
 Ready s weight at =
     ((s .top .j0 < 8) × (s .top .j1 < 8))
-    × (Inner (s .fix) × (Covered weight at (s .top) (s .fix) (s .n .cost) × (s .n .cost < 600000)))
+    × (Flanked (s .fix) × (Covered weight at (s .top) (s .fix) (s .n .cost) × (s .n .cost < 600000)))

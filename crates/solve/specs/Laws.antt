@@ -22,8 +22,9 @@ use Rattle.search.specs.Record.{coordOf, coordAt, noCoord, shrinks, row, bitAt}
 use Rattle.search.specs.Base.{slotOf, worstTo, parTo, nowTo, stepped, baseNow, baseBest}
 use Rattle.search.specs.Solve.{topTo, fixOf, stepOf, otherOf, moveAt, movesTo, layerOf, layersTo, solve}
 use Rattle.coord.specs.Rows.{coordIn, tableOf, regretsOf, distsOf, weightsOf, ranksOf, oddsOf, upsOf}
-use Rattle.solve.specs.Flat.{placeOf, placesOf, spot, topIn, regretAt, parIn, towardIn, fixIn, baseIn, distIn, stepIn, turnIn, secondIn, pairedIn, movesIn, startIn, layerIn, layersIn, solveIn, steppedIn, baseFor, pairIn}
-use Rattle.solve.specs.Inner.{Apart, Inner}
+use Rattle.solve.specs.Flat.{placeOf, placesOf, spot, topIn, regretAt, parIn, towardIn, fixIn, baseIn, distIn, stepIn, turnIn}
+use Rattle.solve.specs.Flat.{secondIn, pairedIn, movesIn, startIn, layerIn, layersIn, solveIn, steppedIn, baseFor, pairIn}
+use Rattle.solve.specs.Inner.{Apart, Flanked}
 
 -- ---- the two largest regrets are of two different coordinates
 apart-first : (a : Bool) → Apart (cond a (record { j0 = 1; j1 = 0 }) (record { j0 = 0; j1 = 1 })) 2
@@ -61,17 +62,17 @@ worst-two e (suc n) =
     rw (worst-two e n, q) (more-j0 (l (topTo e n .j0) (n + 2)) (l (topTo e n .j1) (n + 2)) (topTo e n) (n + 2))
 
 -- ---- slots
-slot-inner : (b : Bool) (fix : ℕ) → Inner fix → Inner (cond b fix 2)
-slot-inner true fix h = h
-slot-inner false fix h = (omega arith, omega arith)
+slot-flanked : (b : Bool) (fix : ℕ) → Flanked fix → Flanked (cond b fix 2)
+slot-flanked true fix h = h
+slot-flanked false fix h = (omega arith, omega arith)
 
-toward-inner : (b : Bool) → Inner (cond b 3 1)
-toward-inner true = (omega arith, omega arith)
-toward-inner false = (omega arith, omega arith)
+toward-flanked : (b : Bool) → Flanked (cond b 3 1)
+toward-flanked true = (omega arith, omega arith)
+toward-flanked false = (omega arith, omega arith)
 
-fix-inner : (b d : Bool) → Inner (cond b 2 (cond d 3 1))
-fix-inner true d = (omega arith, omega arith)
-fix-inner false d = toward-inner d
+fix-flanked : (b d : Bool) → Flanked (cond b 2 (cond d 3 1))
+fix-flanked true d = (omega arith, omega arith)
+fix-flanked false d = toward-flanked d
 
 pub other-lt : (b : Bool) (i j : ℕ) → i < 8 → j < 8 → cond b j i < 8
 other-lt true i j hi hj = hj
@@ -86,25 +87,29 @@ record RowAt (regret dist : List Float) (weight rank odd : List ℕ) (up : List 
   pub oddIs : (j : ℕ) → j < 8 → getD odd (getD at j 0) 0 ≡ modZ (coordAt e j .k0) 2
   pub upIs : (j : ℕ) → j < 8 → getD up (getD at j 0) false ≡ ltZ (pos 0) (coordAt e j .dir)
 
-module _ {regret dist : List Float} {weight rank odd : List ℕ} {up : List Bool} {at : List ℕ} {e : List Coord} (h : RowAt regret dist weight rank odd up at e) where
+module _ {regret dist : List Float} {weight rank odd : List ℕ} {up : List Bool} {at : List ℕ} {e : List Coord}
+    (h : RowAt regret dist weight rank odd up at e) where
   top-is : (n : ℕ) → n ≤ 6 → topIn regret at n ≡ topTo e n
   unfolding topIn topTo
   top-is zero l = rw (h .regretIs 0 (omega arith), h .regretIs 1 (omega arith))
   top-is (suc n) l =
       let a = apart regret at n in
-      rw (h .regretIs (topIn regret at n .j0) (omega (arith, a .0)), h .regretIs (topIn regret at n .j1) (omega (arith, a .1 .0)), h .regretIs (n + 2) (omega arith), top-is n (omega arith))
+      rw (h .regretIs (topIn regret at n .j0) (omega (arith, a .0)), h .regretIs (topIn regret at n .j1) (omega (arith, a .1 .0)))
+      (rw (h .regretIs (n + 2) (omega arith), top-is n (omega arith)))
 
   par-is : (n : ℕ) → n ≤ 8 → parIn odd at n ≡ parTo e n
   unfolding parIn parTo
   par-is zero l = refl
   par-is (suc n) l = rw (h .oddIs n (omega arith), par-is n (omega arith))
 
-  base-is : (j0 fix : ℕ) → Inner fix → (n : ℕ) → n ≤ 8 → baseIn dist weight rank at j0 fix n ≡ nowTo e j0 fix n
+  base-is : (j0 fix : ℕ) → Flanked fix → (n : ℕ) → n ≤ 8 → baseIn dist weight rank at j0 fix n ≡ nowTo e j0 fix n
   unfolding baseIn nowTo
   base-is j0 fix i zero l = refl
   base-is j0 fix i (suc n) l =
-      let s = slot-inner (eqb n j0) fix i in
-      rw (h .weightIs n (slotOf j0 fix n) (omega arith) (omega (arith, s .1)), h .rankIs n (slotOf j0 fix n) (omega arith) (omega (arith, s .1)), h .distIs n (slotOf j0 fix n) (omega arith) (omega (arith, s .1)), base-is j0 fix i n (omega arith))
+      let s = slot-flanked (eqb n j0) fix i in
+      let l5 : slotOf j0 fix n < 5 = omega (arith, s .1) in
+      rw (h .weightIs n (slotOf j0 fix n) (omega arith) l5, h .rankIs n (slotOf j0 fix n) (omega arith) l5)
+      (rw (h .distIs n (slotOf j0 fix n) (omega arith) l5, base-is j0 fix i n (omega arith)))
 
   -- one paired step
   step-is : (bound : Closed) (n : Now) (best : Best) (j f f′ j2 g g′ : ℕ) → j < 8 → f < 5 → f′ < 5 → j2 < 8 → g < 5 → g′ < 5
@@ -118,7 +123,7 @@ module _ {regret dist : List Float} {weight rank odd : List ℕ} {up : List Bool
       (rw (h .rankIs j f′ hj hf′, h .rankIs j2 g′ hj2 hg′)))
 
   -- step i of the sixteen is one of the two of turn i / 2
-  module _ (top : Top) (fix : ℕ) (bound : Closed) (n : Now) (l0 : top .j0 < 8) (l1 : top .j1 < 8) (inner : Inner fix) where
+  module _ (top : Top) (fix : ℕ) (bound : Closed) (n : Now) (l0 : top .j0 < 8) (l1 : top .j1 < 8) (flanked : Flanked fix) where
     move-is : (best : Best) (i j j2 : ℕ) → i / 2 ≡ j → otherOf j (top .j0) (top .j1) ≡ j2 → j < 8
         → stepIn
         (distIn dist (n .dist) (spot at j (slotOf (top .j0) fix j)) (spot at j (slotOf (top .j0) fix j + 2 * (i % 2) - 1))
@@ -127,20 +132,21 @@ module _ {regret dist : List Float} {weight rank odd : List ℕ} {up : List Bool
         j2 (spot at j2 (slotOf (top .j0) fix j2)) (spot at j2 (secondIn up at (slotOf (top .j0) fix j2) j2))
         ≡ moveAt e top fix bound n best i
     move-is best i j j2 q o l =
-        let f = slot-inner (eqb j (top .j0)) fix inner in
-        let g = slot-inner (eqb j2 (top .j0)) fix inner in
-        let t = slot-inner (eqb (slotOf (top .j0) fix j2) 2) (towardIn up at j2) (toward-inner (getD up (getD at j2 0) false)) in
+        let f = slot-flanked (eqb j (top .j0)) fix flanked in
+        let g = slot-flanked (eqb j2 (top .j0)) fix flanked in
+        let t = slot-flanked (eqb (slotOf (top .j0) fix j2) 2) (towardIn up at j2) (toward-flanked (getD up (getD at j2 0) false)) in
         let m = other-lt (eqb j (top .j0)) (top .j0) (top .j1) l0 l1 in
         rw (q, o, ← h .upIs j2 (rw o at m))
         (step-is bound n best j (slotOf (top .j0) fix j) (slotOf (top .j0) fix j + 2 * (i % 2) - 1) j2 (slotOf (top .j0) fix j2)
-        (secondIn up at (slotOf (top .j0) fix j2) j2) l (omega (arith, f .1)) (omega (arith, f .1)) (rw o at m) (omega (arith, g .1)) (omega (arith, t .1)))
+        (secondIn up at (slotOf (top .j0) fix j2) j2)
+        l (omega (arith, f .1)) (omega (arith, f .1)) (rw o at m) (omega (arith, g .1)) (omega (arith, t .1)))
 
     turn-is : (best : Best) (j : ℕ) → j < 8
         → pairedIn dist weight rank up at top fix bound n best j (otherOf j (top .j0) (top .j1))
         ≡ moveAt e top fix bound n (moveAt e top fix bound n best (2 * j)) (suc (2 * j))
     unfolding turnIn
     turn-is best j l =
-        let f = slot-inner (eqb j (top .j0)) fix inner in
+        let f = slot-flanked (eqb j (top .j0)) fix flanked in
         let d : spot at j (slotOf (top .j0) fix j) - 1 ≡ spot at j (slotOf (top .j0) fix j + 2 * (2 * j % 2) - 1) = omega (arith, f .0) in
         let u : spot at j (slotOf (top .j0) fix j) + 1 ≡ spot at j (slotOf (top .j0) fix j + 2 * (suc (2 * j) % 2) - 1) = omega arith in
         let p : 2 * j / 2 ≡ j = omega arith in
@@ -170,24 +176,26 @@ module _ {regret dist : List Float} {weight rank odd : List ℕ} {up : List Bool
       ≡ record { top = topTo e 6; fix = fixOf e want (topTo e 6 .j0); n = nowTo e (topTo e 6 .j0) (fixOf e want (topTo e 6 .j0)) 8 }
   unfolding startIn
   start-is want =
+      let f = fix-flanked (eqb (parTo e 8) want) (ltZ (pos 0) (coordAt e (topTo e 6 .j0) .dir)) in
       rw (top-is 6 (omega arith), fix-is want (topTo e 6 .j0) top-lt)
-      (rw (base-is (topTo e 6 .j0) (fixOf e want (topTo e 6 .j0)) (fix-inner (eqb (parTo e 8) want) (ltZ (pos 0) (coordAt e (topTo e 6 .j0) .dir))) 8 (omega arith)))
+      (rw (base-is (topTo e 6 .j0) (fixOf e want (topTo e 6 .j0)) f 8 (omega arith)))
 
   layer-is : (want : ℕ) (bound : Closed) (best : Best) → layerIn regret dist weight rank odd up at want bound best ≡ layerOf e want bound best
   unfolding layerIn
   layer-is want bound best =
       rw (start-is want)
       (moves-is (topTo e 6) (fixOf e want (topTo e 6 .j0)) bound (nowTo e (topTo e 6 .j0) (fixOf e want (topTo e 6 .j0)) 8) top-lt top-lt1
-      (fix-inner (eqb (parTo e 8) want) (ltZ (pos 0) (coordAt e (topTo e 6 .j0) .dir)))
+      (fix-flanked (eqb (parTo e 8) want) (ltZ (pos 0) (coordAt e (topTo e 6 .j0) .dir)))
       _ 8 (omega arith))
 
   -- ---- the base of a parity
   stepped-is : (s : Now) (j : ℕ) → j < 8 → steppedIn dist weight rank up at s j ≡ stepped (coordAt e j) s j
   unfolding steppedIn stepped
   stepped-is s j l =
-      let t = toward-inner (getD up (getD at j 0) false) in
-      rw (h .weightIs j 2 l (omega arith), h .weightIs j (towardIn up at j) l (omega (arith, t .1)), h .rankIs j (towardIn up at j) l (omega (arith, t .1)))
-      (rw (h .distIs j 2 l (omega arith), h .distIs j (towardIn up at j) l (omega (arith, t .1))) (rw (h .upIs j l)))
+      let t = toward-flanked (getD up (getD at j 0) false) in
+      let l5 : towardIn up at j < 5 = omega (arith, t .1) in
+      rw (h .weightIs j 2 l (omega arith), h .weightIs j (towardIn up at j) l l5, h .rankIs j (towardIn up at j) l l5)
+      (rw (h .distIs j 2 l (omega arith), h .distIs j (towardIn up at j) l l5) (rw (h .upIs j l)))
 
   base-for : (r : ℕ) → baseFor regret dist weight rank odd up at r ≡ baseNow e r
   unfolding baseFor baseNow
@@ -221,8 +229,8 @@ module _ (ts : List Float) (p c s : ℕ) (ls : s < 8) where
       let r : spot (placesOf c s) j f % 5 ≡ f = omega arith in
       tab-at A d (λ (i : ℕ). g (i / 5) (i % 5)) 640 (spot (placesOf c s) j f) (omega (arith, place-lt j l)) ∙ rw (q, r)
 
-  held : RowAt (regretsOf (tableOf ts p)) (distsOf (tableOf ts p)) (weightsOf (tableOf ts p)) (ranksOf (tableOf ts p)) (oddsOf (tableOf ts p)) (upsOf (tableOf ts p))
-      (placesOf c s) (row ts p c s)
+  held : RowAt (regretsOf (tableOf ts p)) (distsOf (tableOf ts p)) (weightsOf (tableOf ts p)) (ranksOf (tableOf ts p))
+      (oddsOf (tableOf ts p)) (upsOf (tableOf ts p)) (placesOf c s) (row ts p c s)
   unfolding regretsOf distsOf weightsOf ranksOf oddsOf upsOf
   held =
       let e = tableOf ts p in

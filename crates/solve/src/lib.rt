@@ -3,7 +3,7 @@
 // record i stands at 5 * i + f in `dist`, `weight` and `rank`; `up` says whether its target lies above its rounding.
 ghost use mathlib.Core.Path.{_≡_};
 ghost use mathlib.Core.Bool.{cond};
-ghost use Prim.Native.Nat.{ℕ, _<_, _≤_, _+_, _*_, _-_, _%_, min};
+ghost use Prim.Native.Nat.{ℕ, _<_, _≤_, _+_, _*_, _-_, _%_, _^_, min};
 ghost use lib.ListN.{getD};
 ghost use lib.Dec.{eqb};
 ghost use Rattle.laws.specs.Lists.{tab};
@@ -12,8 +12,9 @@ ghost use Rattle.search.specs.Bound.{lexOf};
 ghost use Rattle.search.specs.Bound as search;
 ghost use Rattle.search.specs.Base.{slotOf, keySet, baseBest};
 ghost use Rattle.search.specs.Solve.{keyMoved, otherOf, keptBase, unmet, foundOf};
-ghost use Rattle.solve.specs.Flat.{swapBytes, placesOf, spot, topIn, parIn, fixIn, baseIn, stepIn, turnIn, movesIn, startIn, layerIn, solveIn, steppedIn, pairIn};
-ghost use Rattle.solve.specs.Inner.{Placed, Apart, Inner, Covered, Ready};
+ghost use Rattle.solve.specs.Flat.{swapBytes, placesOf, spot, topIn, parIn, fixIn, baseIn, stepIn, turnIn, movesIn};
+ghost use Rattle.solve.specs.Flat.{startIn, layerIn, solveIn, steppedIn, pairIn};
+ghost use Rattle.solve.specs.Inner.{Placed, Apart, Flanked, Covered, Ready};
 use search::Best;
 use search::Closed;
 use search::Found;
@@ -61,15 +62,31 @@ fn wide8(x: u8) -> u32
 
 // The slot a step toward the target.
 fn toward(up: bool) -> usize
-    ensures { λ r. ⌜ (r ≡ cond up 3 1) × Inner r ⌝ }
+    ensures { λ r. ⌜ (r ≡ cond up 3 1) × Flanked r ⌝ }
 {
     if up { 3 } else { 1 }
 }
 
+// The weight at a place of the row of weights.
+fn weight_at(weight: &[u16; 640], i: usize) -> u32
+    requires { ⌜ i < 640 ⌝ }
+    ensures { λ r. ⌜ (r ≡ getD (now (weight .entry)) i 0) × (r < 65536) ⌝ }
+{
+    wide(weight[i])
+}
+
+// The rank at a place of the row of ranks.
+fn rank_at(rank: &[u8; 640], i: usize) -> u32
+    requires { ⌜ i < 640 ⌝ }
+    ensures { λ r. ⌜ (r ≡ getD (now (rank .entry)) i 0) × (r < 256) ⌝ }
+{
+    wide8(rank[i])
+}
+
 // The slot at which coordinate j stands: 2, but `fix` at j0.
 fn slot(j0: usize, fix: usize, j: usize) -> usize
-    requires { ⌜ Inner fix ⌝ }
-    ensures { λ r. ⌜ (r ≡ slotOf j0 fix j) × Inner r ⌝ }
+    requires { ⌜ Flanked fix ⌝ }
+    ensures { λ r. ⌜ (r ≡ slotOf j0 fix j) × Flanked r ⌝ }
 {
     if j == j0 { fix } else { 2 }
 }
@@ -84,8 +101,8 @@ fn other(j: usize, j0: usize, j1: usize) -> usize
 
 // The slot to which the second coordinate steps: toward its target, but back to its rounding where it was repaired.
 fn second(g: usize, t: usize) -> usize
-    requires { ⌜ Inner t ⌝ }
-    ensures { λ r. ⌜ (r ≡ cond (eqb g 2) t 2) × Inner r ⌝ }
+    requires { ⌜ Flanked t ⌝ }
+    ensures { λ r. ⌜ (r ≡ cond (eqb g 2) t 2) × Flanked r ⌝ }
 {
     if g == 2 { t } else { 2 }
 }
@@ -141,13 +158,14 @@ fn holds(bound: Closed, cost: u32, key: u32) -> bool
     false
 }
 
-// Ranks x and y in place of the ranks at j and j2.
-fn key_moved(key: u32, j: usize, x: u32, j2: usize, y: u32) -> u32
-    requires { ⌜ (j < 8) × (j2 < 8) ⌝ }
-    ensures { λ r. ⌜ r ≡ keyMoved key j x j2 y ⌝ }
+// ---- packed rows
+
+// Rank x where coordinate j stands.
+fn nibble(x: u32, j: usize) -> u32
+    requires { ⌜ j < 8 ⌝ }
+    ensures { λ r. ⌜ r ≡ x * 2 ^ (4 * j) % 2 ^ 32 ⌝ }
 {
-    let mask = !((15u32 << (4 * j)) | (15u32 << (4 * j2)));
-    (key & mask) | (x << (4 * j)) | (y << (4 * j2))
+    x << (4 * j)
 }
 
 // Rank x in place of the rank at j.
@@ -155,7 +173,16 @@ fn key_set(key: u32, j: usize, x: u32) -> u32
     requires { ⌜ j < 8 ⌝ }
     ensures { λ r. ⌜ r ≡ keySet key j x ⌝ }
 {
-    (key & !(15u32 << (4 * j))) | (x << (4 * j))
+    (key & !nibble(15, j)) | nibble(x, j)
+}
+
+// Ranks x and y in place of the ranks at j and j2.
+fn key_moved(key: u32, j: usize, x: u32, j2: usize, y: u32) -> u32
+    requires { ⌜ (j < 8) × (j2 < 8) ⌝ }
+    ensures { λ r. ⌜ r ≡ keyMoved key j x j2 y ⌝ }
+{
+    let mask = !(nibble(15, j) | nibble(15, j2));
+    (key & mask) | nibble(x, j) | nibble(y, j2)
 }
 
 // ---- one shrink
@@ -231,16 +258,18 @@ fn base_at(
     fix: usize,
 ) -> Now
     requires { ⌜ Placed (now at) ⌝ }
-    requires { ⌜ Inner fix ⌝ }
-    ensures { λ r. ⌜ (r ≡ baseIn (now (dist .entry)) (now (weight .entry)) (now (rank .entry)) (now (at .entry)) j0 fix 8) × (r .cost < 600000) ⌝ }
+    requires { ⌜ Flanked fix ⌝ }
+    ensures { λ r. ⌜
+        (r ≡ baseIn (now (dist .entry)) (now (weight .entry)) (now (rank .entry)) (now (at .entry)) j0 fix 8) × (r .cost < 600000)
+        ⌝ }
 {
     let mut cost = 0u32;
     let mut key = 0u32;
     let mut d = 0.0f64;
     for j in 0..8usize {
         let i = 5 * place(at, j) + slot(j0, fix, j);
-        cost += wide(weight[i]);
-        key = key | (wide8(rank[i]) << (4 * j));
+        cost += weight_at(weight, i);
+        key = key | nibble(rank_at(rank, i), j);
         d = d + dist[i];
     }
     Now { cost, key, dist: d }
@@ -271,8 +300,10 @@ fn step(
     if d >= best.d {
         return best;
     }
-    let cost = n.cost - wide(weight[a]) - wide(weight[b]) + wide(weight[a2]) + wide(weight[b2]);
-    let key = key_moved(n.key, j, wide8(rank[a2]), j2, wide8(rank[b2]));
+    let cost = n.cost - weight_at(weight, a) - weight_at(weight, b)
+        + weight_at(weight, a2)
+        + weight_at(weight, b2);
+    let key = key_moved(n.key, j, rank_at(rank, a2), j2, rank_at(rank, b2));
     if holds(bound, cost, key) {
         return Best { d, key, met: true };
     }
@@ -301,9 +332,10 @@ fn turn(
     ensures { λ r. ⌜ r ≡ turnIn (now (dist .entry)) (now (weight .entry)) (now (rank .entry)) bound n best j a j2 b b2 ⌝ }
 {
     let x = n.dist - dist[a] - dist[b];
-    let d = x + dist[a - 1] + dist[b2];
+    let y = dist[b2];
+    let d = x + dist[a - 1] + y;
     let down = step(d, weight, rank, bound, n, best, j, a, a - 1, j2, b, b2);
-    let e = x + dist[a + 1] + dist[b2];
+    let e = x + dist[a + 1] + y;
     step(e, weight, rank, bound, n, down, j, a, a + 1, j2, b, b2)
 }
 
@@ -322,10 +354,12 @@ fn moves(
 ) -> Best
     requires { ⌜ Placed (now at) ⌝ }
     requires { ⌜ (top .j0 < 8) × (top .j1 < 8) ⌝ }
-    requires { ⌜ Inner fix ⌝ }
+    requires { ⌜ Flanked fix ⌝ }
     requires { ⌜ Covered (now weight) (now at) top fix (n .cost) ⌝ }
     requires { ⌜ n .cost < 600000 ⌝ }
-    ensures { λ r. ⌜ r ≡ movesIn (now (dist .entry)) (now (weight .entry)) (now (rank .entry)) (now (up .entry)) (now (at .entry)) top fix bound n start 8 ⌝ }
+    ensures { λ r. ⌜
+        r ≡ movesIn (now (dist .entry)) (now (weight .entry)) (now (rank .entry)) (now (up .entry)) (now (at .entry)) top fix bound n start 8
+        ⌝ }
 {
     let mut best = start;
     let j0 = top.j0;
@@ -346,7 +380,7 @@ fn moves(
 fn fix_of(odd: &[u8; 128], up: &[bool; 128], at: &[usize; 8], want: u32, j0: usize) -> usize
     requires { ⌜ Placed (now at) ⌝ }
     requires { ⌜ j0 < 8 ⌝ }
-    ensures { λ r. ⌜ (r ≡ fixIn (now (odd .entry)) (now (up .entry)) (now (at .entry)) want j0) × Inner r ⌝ }
+    ensures { λ r. ⌜ (r ≡ fixIn (now (odd .entry)) (now (up .entry)) (now (at .entry)) want j0) × Flanked r ⌝ }
 {
     if parity_of(odd, at) == want {
         return 2;
@@ -367,7 +401,10 @@ fn begin(
     want: u32,
 ) -> Start
     requires { ⌜ Placed (now at) ⌝ }
-    ensures { λ r. ⌜ (r ≡ startIn (now (regret .entry)) (now (dist .entry)) (now (weight .entry)) (now (rank .entry)) (now (odd .entry)) (now (up .entry)) (now (at .entry)) want) × Ready r (now (weight .entry)) (now (at .entry)) ⌝ }
+    ensures { λ r. ⌜
+        (r ≡ startIn (now (regret .entry)) (now (dist .entry)) (now (weight .entry)) (now (rank .entry)) (now (odd .entry)) (now (up .entry))
+        (now (at .entry)) want) × Ready r (now (weight .entry)) (now (at .entry))
+        ⌝ }
 {
     let top = top_two(regret, at);
     let fix = fix_of(odd, up, at, want, top.j0);
@@ -405,7 +442,10 @@ fn layer(
     best: Best,
 ) -> Best
     requires { ⌜ Placed (now at) ⌝ }
-    ensures { λ r. ⌜ r ≡ layerIn (now (regret .entry)) (now (dist .entry)) (now (weight .entry)) (now (rank .entry)) (now (odd .entry)) (now (up .entry)) (now (at .entry)) want bound best ⌝ }
+    ensures { λ r. ⌜
+        r ≡ layerIn (now (regret .entry)) (now (dist .entry)) (now (weight .entry)) (now (rank .entry)) (now (odd .entry)) (now (up .entry))
+        (now (at .entry)) want bound best
+        ⌝ }
 {
     let s = begin(regret, dist, weight, rank, odd, up, at, want);
     let top = s.top;
@@ -450,7 +490,10 @@ pub fn solve(
     bound: Closed,
     n: usize,
 ) -> Found
-    ensures { λ r. ⌜ r ≡ foundOf (solveIn (now (regret .entry)) (now (dist .entry)) (now (weight .entry)) (now (rank .entry)) (now (odd .entry)) (now (up .entry)) pattern want bound n) ⌝ }
+    ensures { λ r. ⌜
+        r ≡ foundOf (solveIn (now (regret .entry)) (now (dist .entry)) (now (weight .entry)) (now (rank .entry)) (now (odd .entry)) (now (up .entry))
+        pattern want bound n)
+        ⌝ }
 {
     let at = places(pattern, 0);
     let s = begin(regret, dist, weight, rank, odd, up, &at, want);
@@ -484,13 +527,15 @@ fn stepped(
     requires { ⌜ Placed (now at) ⌝ }
     requires { ⌜ j < 8 ⌝ }
     requires { ⌜ (getD (now weight) (spot (now at) j 2) 0 ≤ s .cost) × (s .cost < 600000) ⌝ }
-    ensures { λ r. ⌜ r ≡ steppedIn (now (dist .entry)) (now (weight .entry)) (now (rank .entry)) (now (up .entry)) (now (at .entry)) s j ⌝ }
+    ensures { λ r. ⌜
+        r ≡ steppedIn (now (dist .entry)) (now (weight .entry)) (now (rank .entry)) (now (up .entry)) (now (at .entry)) s j
+        ⌝ }
 {
     let i = place(at, j);
     let a = 5 * i + 2;
     let b = 5 * i + toward(up[i]);
-    let cost = s.cost - wide(weight[a]) + wide(weight[b]);
-    let key = key_set(s.key, j, wide8(rank[b]));
+    let cost = s.cost - weight_at(weight, a) + weight_at(weight, b);
+    let key = key_set(s.key, j, rank_at(rank, b));
     Now {
         cost,
         key,
@@ -521,7 +566,10 @@ fn base_pair(
     b0: Closed,
     b1: Closed,
 ) -> Pair
-    ensures { λ r. ⌜ r ≡ pairIn (now (regret .entry)) (now (dist .entry)) (now (weight .entry)) (now (rank .entry)) (now (odd .entry)) (now (up .entry)) pattern b0 b1 ⌝ }
+    ensures { λ r. ⌜
+        r ≡ pairIn (now (regret .entry)) (now (dist .entry)) (now (weight .entry)) (now (rank .entry)) (now (odd .entry)) (now (up .entry))
+        pattern b0 b1
+        ⌝ }
 {
     let at = places(pattern, 0);
     let top = top_two(regret, &at);
@@ -551,7 +599,10 @@ pub fn pairs(
     b0: Closed,
     b1: Closed,
 ) -> [Pair; 128]
-    ensures { λ r. ⌜ r ≡ tab (λ (i : ℕ). pairIn (now (regret .entry)) (now (dist .entry)) (now (weight .entry)) (now (rank .entry)) (now (odd .entry)) (now (up .entry)) (getD (now (bytes .entry)) i 0) b0 b1) 128 ⌝ }
+    ensures { λ r. ⌜
+        r ≡ tab (λ (i : ℕ). pairIn (now (regret .entry)) (now (dist .entry)) (now (weight .entry)) (now (rank .entry))
+        (now (odd .entry)) (now (up .entry)) (getD (now (bytes .entry)) i 0) b0 b1) 128
+        ⌝ }
 {
     let first = Pair {
         even: none(),

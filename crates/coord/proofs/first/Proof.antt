@@ -16,7 +16,9 @@ read k f h =
     ∙ toZ-ofZ w32 (pos (risen k)) (record { sfits = omega (arith, risen-lt k h) })
 
 add-result : tie.Need-add-result
-add-result c = let t = toZ-ofZ w32 (c .args .k) (c .fits .k) in rw (t, rise (c .args .k) (c .pre)) (record { sfits = omega (arith, risen-lt (c .args .k) (c .pre)) })
+add-result c =
+    let t = toZ-ofZ w32 (c .args .k) (c .fits .k) in
+    rw (t, rise (c .args .k) (c .pre)) (record { sfits = omega (arith, risen-lt (c .args .k) (c .pre)) })
 
 cast-result : tie.Need-cast-result
 cast-result c = rw (read (c .args .k) (c .fits .k) (c .pre)) (tt, record { fits = omega (arith, risen-lt (c .args .k) (c .pre)) })

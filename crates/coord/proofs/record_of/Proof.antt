@@ -78,16 +78,20 @@ slot-of-requires-5 c κs = search needs
 
 returns : tie.Need-returns
 returns c =
-    let start = c .before .before .before .before .before .before .before .before .before in
-    let side = c .before .before .before .before .before .before .before .side in
-    let n = c .before .before .before .before .before .first .result in
+    let c4 = c .before .before .before .before in
+    let found = c4 .before .first in
+    let side = c4 .before .before .before .side in
+    let start = c4 .before .before .before .before .before in
+    let n = found .result in
     let t = start .args .t in
     let o = start .args .o in
     let k = start .args .k in
     let back = toZ-ofZ w32 k (start .fits .k) in
-    let hk = sym back ∙ c .before .before .before .before .before .first .ensures .0 in
-    made t o (start .args .z) k back back (toZ-ofZ w32 (side .result) (record { sfits = side .ok })) (side .ensures) (c .before .before .before .before .before .before .abs .ensures)
-    (slot-at t o k n 0 n hk (slot-0 n) (c .before .before .before .before .slot-of .ensures)) (slot-at t o k n 1 (n + 1) hk (slot-1 n) (c .before .before .before .slot-of2 .ensures))
+    let hk = sym back ∙ found .ensures .0 in
+    made t o (start .args .z) k back back (toZ-ofZ w32 (side .result) (record { sfits = side .ok })) (side .ensures)
+    (c4 .before .before .abs .ensures)
+    (slot-at t o k n 0 n hk (slot-0 n) (c4 .slot-of .ensures))
+    (slot-at t o k n 1 (n + 1) hk (slot-1 n) (c .before .before .before .slot-of2 .ensures))
     (slot-at t o k n 2 (n + 2) hk (slot-up n (n + 2) 0 (omega arith)) (c .before .before .slot-of3 .ensures))
     (slot-at t o k n 3 (n + 3) hk (slot-up n (n + 3) 1 (omega arith)) (c .before .slot-of4 .ensures))
     (slot-at t o k n 4 (n + 4) hk (slot-up n (n + 4) 2 (omega arith)) (c .slot-of5 .ensures))

@@ -1,6 +1,5 @@
 -- `coord::rows_of` meets its contract. The invariants: the rows hold the records before i, and the first f slots of record i. Assumes nothing.
 use mathlib.Core.Path.{_≡_, _∙_, ap}
-use mathlib.Core.List.{[]}
 use Prim.Native.Nat.{ℕ, _+_, _*_, _-_, _≤_, _%_}
 use native.Mathlib.Omega.{arith}
 use borrow.Author.Needs.{needs}
@@ -29,9 +28,7 @@ abbrev μ-loop : tie.MeasureT-loop
 
 loop-holds : tie.Need-loop-holds Inv-loop2 μ-loop2 Inv-loop μ-loop
 loop-holds c =
-    let s = c .args in
-    let e = tableOf (s .t) (s .p % 2) in
-    (omega arith, (ones-none e _ [] [] [] _ _ (search needs) (search needs) (search needs), fives-none e [] _ _ _ [] [] (search needs) (search needs) (search needs)))
+    (omega arith, (ones-none _ _ _ _ (search needs) (search needs) (search needs), fives-none _ _ _ _ (search needs) (search needs) (search needs)))
 
 record-at-requires : tie.Need-record-at-requires Inv-loop2 μ-loop2 Inv-loop μ-loop
 record-at-requires c κs = search needs
@@ -112,7 +109,7 @@ loop2-again c =
     let i = c .before .before .before .before .before .before .before .before .before .before .before .loop .i in
     let s = c .before .before .before .before .before .before .before .before .before .before .before .before .args in
     let hc = r .ensures ∙ record-is (s .t) (s .p % 2) i (omega arith) in
-    (omega arith, fives-more (tableOf (s .t) (s .p % 2)) [] (l .dist) (l .weight) (l .rank) [] [] i (r .result) (omega arith) hc (l .f) (omega arith) (l .inv .1))
+    (omega arith, fives-more _ (l .dist) (l .weight) (l .rank) i (l .f) (r .result) (omega arith) (omega arith) hc (l .inv .1))
 
 add-i : tie.Need-add-i Inv-loop2 μ-loop2 Inv-loop μ-loop
 add-i c = search needs
@@ -134,7 +131,7 @@ loop-again c =
     let q : 5 * l .i + l2 .f ≡ 5 * (l .i + 1) = omega arith in (
       omega arith,
       (
-        ones-more (tableOf (s .t) (s .p % 2)) (l .regret) [] [] [] (l .odd) (l .up) (l .i) (r .result) (omega arith) hc o b (l .inv .1 .0),
+        ones-more _ (l .regret) (l .odd) (l .up) (l .i) (r .result) (omega arith) hc o b (l .inv .1 .0),
         rw q at (l2 .inv .1),
       ),
     )
@@ -142,9 +139,8 @@ loop-again c =
 returns : tie.Need-returns Inv-loop2 μ-loop2 Inv-loop μ-loop
 returns c =
     let l = c .before .loop in
-    let s = c .before .before .args in
     let q : l .i ≡ 128 = omega arith in
-    rows-all (tableOf (s .t) (s .p % 2)) (l .regret) (l .dist) (l .weight) (l .rank) (l .odd) (l .up) q (l .inv .1 .0) (l .inv .1 .1)
+    rows-all _ (l .regret) (l .dist) (l .weight) (l .rank) (l .odd) (l .up) q (l .inv .1 .0) (l .inv .1 .1)
 
 pub rows-of-spec : {M : Type 1} → statement M
 rows-of-spec =

@@ -20,10 +20,15 @@ cast-result : tie.Need-cast-result
 cast-result c = search needs
 
 sub-result : tie.Need-sub-result
-sub-result c = let a = c .args .o + 4 * c .args .kk in let t = toZ-ofZ w32 (pos a) (record { sfits = omega arith }) in rw t (member-fits a (omega arith))
+sub-result c =
+    let a = c .args .o + 4 * c .args .kk in
+    let t = toZ-ofZ w32 (pos a) (record { sfits = omega arith }) in
+    rw t (member-fits a (omega arith))
 
 returns : tie.Need-returns
-returns c = let a = c .args .o + 4 * c .args .kk in let t = toZ-ofZ w32 (pos a) (record { sfits = omega arith }) in
+returns c =
+    let a = c .args .o + 4 * c .args .kk in
+    let t = toZ-ofZ w32 (pos a) (record { sfits = omega arith }) in
     rw t (toZ-ofZ w32 (subℕ a 4194304) (member-fits a (omega arith)) ∙ member-is (c .args .o) (c .args .kk) (omega arith))
 
 pub value-spec : {M : Type 1} → statement M

@@ -13,7 +13,11 @@ add-a : tie.Need-add-a
 add-a c = search needs
 
 mul-result : tie.Need-mul-result
-mul-result c = let a = 2 * c .args .r + 1 in let h : a ≤ 31 = omega arith in let p : a * a ≤ 31 * 31 = mul-le-mul h h in record { fits = omega arith }
+mul-result c =
+    let a = 2 * c .args .r + 1 in
+    let h : a ≤ 31 = omega arith in
+    let p : a * a ≤ 31 * 31 = mul-le-mul h h in
+    record { fits = omega arith }
 
 returns : tie.Need-returns
 returns c = search needs

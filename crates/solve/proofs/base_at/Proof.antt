@@ -1,4 +1,5 @@
--- `solve::base_at` meets its contract. The invariant: cost, key and distance are those of the first j coordinates, and each adds less than 65,536 to the cost. Assumes nothing.
+-- `solve::base_at` meets its contract. The invariant: cost, key and distance are those of the first j coordinates, and each adds less than 65,536
+-- to the cost. Assumes nothing.
 use Prim.Native.Nat.{ℕ, suc, _≤_, _-_, _+_, _*_, _%_, _^_}
 use mathlib.Core.Path.{_≡_}
 use mathlib.Core.List.{List}
@@ -14,16 +15,17 @@ use native.Mathlib.Omega.{arith}
 use Rattle.solve.proofs.base_at.Statement.{statement}
 use Rattle.solve.proofs.base_at.Tie as tie
 
-more : (dist : List Float) (weight rank at : List ℕ) (j0 fix n : ℕ) {c k q f w r : ℕ} {d : Float}
+more : (dist : List Float) (weight rank at : List ℕ) (j0 fix n : ℕ) {c k q f w r m : ℕ} {d : Float}
     → _≡_ {A = Now} (record { cost = c; key = k; dist = d }) (baseIn dist weight rank at j0 fix n) → q ≡ getD at n 0 → f ≡ slotOf j0 fix n
-    → w ≡ getD weight (5 * q + f) 0 → r ≡ getD rank (5 * q + f) 0
-    → _≡_ {A = Now} (record { cost = c + w; key = bitOr k (r * 2 ^ (4 * n) % 4294967296); dist = add binary64 d (getD dist (5 * q + f) nan) })
+    → w ≡ getD weight (5 * q + f) 0 → r ≡ getD rank (5 * q + f) 0 → m ≡ r * 2 ^ (4 * n) % 2 ^ 32
+    → _≡_ {A = Now} (record { cost = c + w; key = bitOr k m; dist = add binary64 d (getD dist (5 * q + f) nan) })
     (baseIn dist weight rank at j0 fix (suc n))
 unfolding baseIn
-more dist weight rank at j0 fix n h hq hf hw hr = rw (← h, hw, hr, hf, hq)
+more dist weight rank at j0 fix n h hq hf hw hr hm = rw (← h, hm, hw, hr, hf, hq)
 
 abbrev Inv-loop : tie.InvT-loop
-Inv-loop dist weight rank at j0 fix cost₀ key₀ d₀ j₀ cost key d j = (j ≤ 8) × ((cost ≤ 65536 * j) × (_≡_ {A = Now} (record { cost = cost; key = key; dist = d }) (baseIn dist weight rank at j0 fix j)))
+Inv-loop dist weight rank at j0 fix cost₀ key₀ d₀ j₀ cost key d j =
+    (j ≤ 8) × ((cost ≤ 65536 * j) × (_≡_ {A = Now} (record { cost = cost; key = key; dist = d }) (baseIn dist weight rank at j0 fix j)))
 
 abbrev μ-loop : tie.MeasureT-loop
 μ-loop dist weight rank at j0 fix cost₀ key₀ d₀ j₀ cost key d j = 8 - j
@@ -44,32 +46,17 @@ slot-requires c κs = search needs
 add-i : tie.Need-add-i Inv-loop μ-loop
 add-i c = search needs
 
-mul-wide : tie.Need-mul-wide Inv-loop μ-loop
-mul-wide c = search needs
-
-element-copy-out-wide : tie.Need-element-copy-out-wide Inv-loop μ-loop
-element-copy-out-wide c = search needs
-
-wide-requires : tie.Need-wide-requires Inv-loop μ-loop
-wide-requires c κs = search needs
+weight-at-requires : tie.Need-weight-at-requires Inv-loop μ-loop
+weight-at-requires c κs = search needs
 
 add-cost : tie.Need-add-cost Inv-loop μ-loop
 add-cost c = search needs
 
-element-copy-out-wide8 : tie.Need-element-copy-out-wide8 Inv-loop μ-loop
-element-copy-out-wide8 c = search needs
+rank-at-requires : tie.Need-rank-at-requires Inv-loop μ-loop
+rank-at-requires c κs = search needs
 
-wide8-requires : tie.Need-wide8-requires Inv-loop μ-loop
-wide8-requires c κs = search needs
-
-mul-key : tie.Need-mul-key Inv-loop μ-loop
-mul-key c = search needs
-
-cast-key : tie.Need-cast-key Inv-loop μ-loop
-cast-key c = search needs
-
-shl-key : tie.Need-shl-key Inv-loop μ-loop
-shl-key c = search needs
+nibble-requires : tie.Need-nibble-requires Inv-loop μ-loop
+nibble-requires c κs = search needs
 
 mul-d : tie.Need-mul-d Inv-loop μ-loop
 mul-d c = search needs
@@ -84,15 +71,18 @@ loop-less : tie.Need-loop-less Inv-loop μ-loop
 loop-less c = search needs
 
 loop-again : tie.Need-loop-again Inv-loop μ-loop
-loop-again c = let s = c .before .before .before .before .before .before .before .before .before .args in (
-  omega arith,
-  (
-    omega arith,
-    rw add-one (more (s .dist .now) (s .weight .now) (s .rank .now) (s .at .now) (s .j0) (s .fix) (c .before .before .before .before .before .before .before .before .loop .j)
-        (c .before .before .before .before .before .before .before .before .loop .inv .1 .1) (c .before .before .before .before .before .before .place .ensures .0) (c .before .before .before .before .before .slot .ensures .0)
-        (c .before .before .before .wide .ensures .0) (c .before .wide8 .ensures .0)),
-  ),
-)
+loop-again c =
+    let w = c .before .before .before in
+    let l = w .before .before .before .before in
+    let s = l .before .args in (
+      omega arith,
+      (
+        omega arith,
+        rw add-one (more (s .dist .now) (s .weight .now) (s .rank .now) (s .at .now) (s .j0) (s .fix) (l .loop .j) (l .loop .inv .1 .1)
+            (w .before .before .place .ensures .0) (w .before .slot .ensures .0) (w .weight-at .ensures .0) (c .before .before .rank-at .ensures .0)
+            (c .before .nibble .ensures)),
+      ),
+    )
 
 returns : tie.Need-returns Inv-loop μ-loop
 returns c = let e : c .before .loop .j ≡ 8 = omega arith in (rw e at (c .before .loop .inv .1 .1), omega arith)
@@ -108,15 +98,10 @@ base-at-spec =
     mul-i
     slot-requires
     add-i
-    mul-wide
-    element-copy-out-wide
-    wide-requires
+    weight-at-requires
     add-cost
-    element-copy-out-wide8
-    wide8-requires
-    mul-key
-    cast-key
-    shl-key
+    rank-at-requires
+    nibble-requires
     mul-d
     element-copy-out-d
     add-j

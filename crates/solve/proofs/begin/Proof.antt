@@ -1,4 +1,5 @@
--- `solve::begin` meets its contract. What its three callees answer is the start; the cost of the base holds the weights of any two different coordinates. Assumes nothing.
+-- `solve::begin` meets its contract. What its three callees answer is the start; the cost of the base holds the weights of any two different
+-- coordinates. Assumes nothing.
 use Prim.Native.Nat.{ℕ}
 use mathlib.Core.Path.{_≡_, _∙_, sym, subst, refl}
 use mathlib.Core.Bool.{Bool, true, false, cond}
@@ -45,16 +46,23 @@ base-at-requires : tie.Need-base-at-requires
 base-at-requires c κs = search needs
 
 returns : tie.Need-returns
-returns c = let s = c .before .before .before .args in let a = c .before .before .top-two .ensures .1 in (
-  begun (s .regret .now) (s .dist .now) (s .weight .now) (s .rank .now) (s .odd .now) (s .up .now) (s .at .now) (s .want) (c .before .before .top-two .ensures .0) (c .before .fix-of .ensures .0) (c .base-at .ensures .0),
-  (
-    (a .0, a .1 .0),
-    (
-      c .before .fix-of .ensures .1,
-      (covered (s .dist .now) (s .weight .now) (s .rank .now) (s .at .now) (c .before .before .top-two .result) (c .before .fix-of .result) a (c .base-at .ensures .0), c .base-at .ensures .1),
-    ),
-  ),
-)
+returns c =
+    let s = c .before .before .before .args in
+    let a = c .before .before .top-two .ensures .1 in (
+      begun (s .regret .now) (s .dist .now) (s .weight .now) (s .rank .now) (s .odd .now) (s .up .now) (s .at .now) (s .want)
+          (c .before .before .top-two .ensures .0) (c .before .fix-of .ensures .0) (c .base-at .ensures .0),
+      (
+        (a .0, a .1 .0),
+        (
+          c .before .fix-of .ensures .1,
+          (
+            covered (s .dist .now) (s .weight .now) (s .rank .now) (s .at .now) (c .before .before .top-two .result) (c .before .fix-of .result) a
+                (c .base-at .ensures .0),
+            c .base-at .ensures .1,
+          ),
+        ),
+      ),
+    )
 
 pub begin-spec : {M : Type 1} → statement M
 begin-spec = tie.close (tie.spec top-two-requires fix-of-requires base-at-requires returns)

@@ -11,7 +11,8 @@ use native.Mathlib.Omega.{arith}
 use Rattle.solve.proofs.fix_of.Statement.{statement}
 use Rattle.solve.proofs.fix_of.Tie as tie
 
-turned : (odd : List ℕ) (up : List Bool) (at : List ℕ) (want j0 : ℕ) {k x : ℕ} → (parIn odd at 8 ≡ want → ⊥) → k ≡ getD at j0 0 → x ≡ cond (getD up k false) 3 1
+turned : (odd : List ℕ) (up : List Bool) (at : List ℕ) (want j0 : ℕ) {k x : ℕ} → (parIn odd at 8 ≡ want → ⊥) → k ≡ getD at j0 0
+    → x ≡ cond (getD up k false) 3 1
     → x ≡ fixIn odd up at want j0
 turned odd up at want j0 h hk hx = rw (ne-eqb (parIn odd at 8) want h) (rw (hx, hk))
 
@@ -31,8 +32,13 @@ toward-requires : tie.Need-toward-requires
 toward-requires c κs = search needs
 
 returns-2 : tie.Need-returns-2
-returns-2 c = let e = rw (c .before .before .before .before .parity-of .ensures .0) at (c .before .before .before .if1 .left) in let s = c .before .before .before .before .before .args in
-    (turned (s .odd .now) (s .up .now) (s .at .now) (s .want) (s .j0) e (c .before .before .place .ensures .0) (c .toward .ensures .0), c .toward .ensures .1)
+returns-2 c =
+    let c4 = c .before .before .before .before in
+    let e = rw (c4 .parity-of .ensures .0) at (c .before .before .before .if1 .left) in
+    let s = c4 .before .args in (
+      turned (s .odd .now) (s .up .now) (s .at .now) (s .want) (s .j0) e (c .before .before .place .ensures .0) (c .toward .ensures .0),
+      c .toward .ensures .1,
+    )
 
 pub fix-of-spec : {M : Type 1} → statement M
 fix-of-spec =

@@ -1,32 +1,18 @@
--- `solve::key_set` meets its contract. The code is the definition. Assumes nothing.
+-- `solve::key_set` meets its contract. The code is the definition, its shifts made by `nibble`. Assumes nothing.
 use Rattle.search.specs.Base.{keySet}
 use borrow.Author.Needs.{needs}
 use Rattle.solve.proofs.key_set.Statement.{statement}
 use Rattle.solve.proofs.key_set.Tie as tie
 
-mul-result : tie.Need-mul-result
-mul-result c = search needs
+nibble-requires : tie.Need-nibble-requires
+nibble-requires c κs = search needs
 
-cast-result : tie.Need-cast-result
-cast-result c = search needs
-
-shl-result : tie.Need-shl-result
-shl-result c = search needs
-
-mul-result-2 : tie.Need-mul-result-2
-mul-result-2 c = search needs
-
-cast-result-2 : tie.Need-cast-result-2
-cast-result-2 c = search needs
-
-shl-result-2 : tie.Need-shl-result-2
-shl-result-2 c = search needs
+nibble-requires-2 : tie.Need-nibble-requires-2
+nibble-requires-2 c κs = search needs
 
 returns : tie.Need-returns
 unfolding keySet
-returns c = search needs
+returns c = rw (c .before .nibble .ensures, c .nibble2 .ensures)
 
 pub key-set-spec : {M : Type 1} → statement M
-key-set-spec =
-    tie.close
-    (tie.spec mul-result cast-result shl-result mul-result-2 cast-result-2 shl-result-2 returns)
+key-set-spec = tie.close (tie.spec nibble-requires nibble-requires-2 returns)

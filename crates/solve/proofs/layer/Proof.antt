@@ -13,7 +13,8 @@ use borrow.Author.Needs.{needs}
 use Rattle.solve.proofs.layer.Statement.{statement}
 use Rattle.solve.proofs.layer.Tie as tie
 
-layered : (regret dist : List Float) (weight rank odd : List ℕ) (up : List Bool) (at : List ℕ) (want : ℕ) (bound : Closed) (best : Best) {s : Start} {b x : Best}
+layered : (regret dist : List Float) (weight rank odd : List ℕ) (up : List Bool) (at : List ℕ) (want : ℕ) (bound : Closed)
+    (best : Best) {s : Start} {b x : Best}
     → s ≡ startIn regret dist weight rank odd up at want → b ≡ keptBase bound (s .n) best → x ≡ movedFrom dist weight rank up at bound s b
     → x ≡ layerIn regret dist weight rank odd up at want bound best
 unfolding layerIn
@@ -26,11 +27,16 @@ kept-requires : tie.Need-kept-requires
 kept-requires c κs = search needs
 
 moves-requires : tie.Need-moves-requires
-moves-requires c κs = let r = c .before .before .before .begin .ensures .1 in (c .before .before .before .before .pre, (r .0, (r .1 .0, (r .1 .1 .0, r .1 .1 .1))))
+moves-requires c κs =
+    let c4 = c .before .before .before .before in
+    let r = c .before .before .before .begin .ensures .1 in (c4 .pre, (r .0, (r .1 .0, (r .1 .1 .0, r .1 .1 .1))))
 
 returns : tie.Need-returns
-returns c = let s = c .before .before .before .before .before .args in
-    layered (s .regret .now) (s .dist .now) (s .weight .now) (s .rank .now) (s .odd .now) (s .up .now) (s .at .now) (s .want) (s .bound) (s .best) (c .before .before .before .before .begin .ensures .0) (c .before .kept .ensures) (c .moves .ensures)
+returns c =
+    let c4 = c .before .before .before .before in
+    let s = c4 .before .args in
+    layered (s .regret .now) (s .dist .now) (s .weight .now) (s .rank .now) (s .odd .now) (s .up .now) (s .at .now) (s .want) (s .bound) (s .best)
+    (c4 .begin .ensures .0) (c .before .kept .ensures) (c .moves .ensures)
 
 pub layer-spec : {M : Type 1} → statement M
 layer-spec = tie.close (tie.spec begin-requires kept-requires moves-requires returns)

@@ -20,12 +20,14 @@ use Rattle.solve.proofs.moves.Statement.{statement}
 use Rattle.solve.proofs.moves.Tie as tie
 
 covered : (weight at : List ℕ) (top : Top) (fix j cost : ℕ) {o q f g q2 : ℕ}
-    → getD weight (spot at j (slotOf (top .j0) fix j)) 0 + getD weight (spot at (otherOf j (top .j0) (top .j1)) (slotOf (top .j0) fix (otherOf j (top .j0) (top .j1)))) 0 ≤ cost
+    → getD weight (spot at j (slotOf (top .j0) fix j)) 0 + getD weight
+    (spot at (otherOf j (top .j0) (top .j1)) (slotOf (top .j0) fix (otherOf j (top .j0) (top .j1)))) 0 ≤ cost
     → o ≡ otherOf j (top .j0) (top .j1) → q ≡ getD at j 0 → f ≡ slotOf (top .j0) fix j → g ≡ slotOf (top .j0) fix o → q2 ≡ getD at o 0
     → getD weight (5 * q + f) 0 + getD weight (5 * q2 + g) 0 ≤ cost
 covered weight at top fix j cost h ho hq hf hg h2 = rw (hq, hf, h2, hg, ho) h
 
-moved : (dist : List Float) (weight rank : List ℕ) (up : List Bool) (at : List ℕ) (top : Top) (fix : ℕ) (bound : Closed) (n : Now) (start : Best) (j : ℕ)
+moved : (dist : List Float) (weight rank : List ℕ) (up : List Bool) (at : List ℕ) (top : Top) (fix : ℕ) (bound : Closed) (n : Now) (start : Best)
+    (j : ℕ)
     {best x : Best} {o q f g q2 t t2 : ℕ}
     → best ≡ movesIn dist weight rank up at top fix bound n start j → o ≡ otherOf j (top .j0) (top .j1) → q ≡ getD at j 0 → f ≡ slotOf (top .j0) fix j
     → g ≡ slotOf (top .j0) fix o → q2 ≡ getD at o 0 → t ≡ cond (getD up q2 false) 3 1 → t2 ≡ cond (eqb g 2) t 2
@@ -35,7 +37,8 @@ unfolding movesIn
 moved dist weight rank up at top fix bound n start j hb ho hq hf hg h2 ht ht2 e = rw (e, ht2, ht, h2, hg, hf, hq, ho, hb)
 
 abbrev Inv-loop : tie.InvT-loop
-Inv-loop dist weight rank up at fix bound n best₀ j0 j1 j₀ best j = (j ≤ 8) × (best ≡ movesIn dist weight rank up at (record { j0 = j0; j1 = j1 }) fix bound n best₀ j)
+Inv-loop dist weight rank up at fix bound n best₀ j0 j1 j₀ best j =
+    (j ≤ 8) × (best ≡ movesIn dist weight rank up at (record { j0 = j0; j1 = j1 }) fix bound n best₀ j)
 
 abbrev μ-loop : tie.MeasureT-loop
 μ-loop dist weight rank up at fix bound n best₀ j0 j1 j₀ best j = 8 - j
@@ -87,10 +90,16 @@ add-b2 : tie.Need-add-b2 Inv-loop μ-loop
 add-b2 c = search needs
 
 turn-requires : tie.Need-turn-requires Inv-loop μ-loop
-turn-requires c κs = let s = c .before .before .before .before .before .before .before .before .before .before .args in let p = c .before .before .before .before .before .before .before .before .before .before .pre .1 .1 .1 in
-    let h = covered (s .weight .now) (s .at .now) (s .top) (s .fix) (c .before .before .before .before .before .before .before .before .before .loop .j) (s .n .cost) (p .0 (c .before .before .before .before .before .before .before .before .before .loop .j) (c .before .before .before .before .before .before .before .before .loop-test .taken))
-    (c .before .before .before .before .before .before .before .other .ensures .0) (c .before .before .before .before .before .place .ensures .0) (c .before .before .before .before .slot2 .ensures .0) (c .before .before .before .before .before .before .slot .ensures .0) (c .before .before .before .place2 .ensures .0) in
-    ((c .before .before .before .before .before .before .before .before .loop-test .taken, c .before .before .before .before .before .before .before .other .ensures .1), ((omega arith, omega arith), ((omega arith, omega arith), (h, p .1))))
+turn-requires c κs =
+    let c4 = c .before .before .before .before in
+    let c8 = c4 .before .before .before .before in
+    let s = c8 .before .before .args in
+    let p = c8 .before .before .pre .1 .1 .1 in
+    let h = covered (s .weight .now) (s .at .now) (s .top) (s .fix) (c8 .before .loop .j) (s .n .cost)
+    (p .0 (c8 .before .loop .j) (c8 .loop-test .taken))
+    (c4 .before .before .before .other .ensures .0) (c4 .before .place .ensures .0) (c4 .slot2 .ensures .0) (c4 .before .before .slot .ensures .0)
+    (c .before .before .before .place2 .ensures .0) in
+    ((c8 .loop-test .taken, c4 .before .before .before .other .ensures .1), ((omega arith, omega arith), ((omega arith, omega arith), (h, p .1))))
 
 add-j : tie.Need-add-j Inv-loop μ-loop
 add-j c = search needs
@@ -99,11 +108,17 @@ loop-less : tie.Need-loop-less Inv-loop μ-loop
 loop-less c = search needs
 
 loop-again : tie.Need-loop-again Inv-loop μ-loop
-loop-again c = let s = c .before .before .before .before .before .before .before .before .before .before .before .args in (
-  omega arith,
-  rw add-one (moved (s .dist .now) (s .weight .now) (s .rank .now) (s .up .now) (s .at .now) (s .top) (s .fix) (s .bound) (s .n) (s .start) (c .before .before .before .before .before .before .before .before .before .before .loop .j)
-      (c .before .before .before .before .before .before .before .before .before .before .loop .inv .1) (c .before .before .before .before .before .before .before .before .other .ensures .0) (c .before .before .before .before .before .before .place .ensures .0) (c .before .before .before .before .before .slot2 .ensures .0) (c .before .before .before .before .before .before .before .slot .ensures .0) (c .before .before .before .before .place2 .ensures .0) (c .before .before .toward .ensures .0) (c .before .second .ensures .0) (c .turn .ensures)),
-)
+loop-again c =
+    let c4 = c .before .before .before .before in
+    let c8 = c4 .before .before .before .before in
+    let s = c8 .before .before .before .args in (
+      omega arith,
+      rw add-one (moved (s .dist .now) (s .weight .now) (s .rank .now) (s .up .now) (s .at .now) (s .top) (s .fix) (s .bound) (s .n) (s .start)
+          (c8 .before .before .loop .j) (c8 .before .before .loop .inv .1) (c8 .other .ensures .0) (c4 .before .before .place .ensures .0)
+          (c4 .before .slot2 .ensures .0)
+          (c4 .before .before .before .slot .ensures .0) (c4 .place2 .ensures .0) (c .before .before .toward .ensures .0)
+          (c .before .second .ensures .0) (c .turn .ensures)),
+    )
 
 returns : tie.Need-returns Inv-loop μ-loop
 returns c = let e : c .before .loop .j ≡ 8 = omega arith in rw e at (c .before .loop .inv .1)

@@ -17,7 +17,8 @@ abbrev past : Pair
 past = record { even = unmet; odd = unmet }
 
 abbrev Inv-loop : tie.InvT-loop
-Inv-loop regret dist weight rank odd up bytes b0 b1 out₀ i₀ out i = (i ≤ 128) × ((length out ≡ 128) × ((k : ℕ) → k < i → getD out k past ≡ pairIn regret dist weight rank odd up (getD bytes k 0) b0 b1))
+Inv-loop regret dist weight rank odd up bytes b0 b1 out₀ i₀ out i =
+    (i ≤ 128) × ((length out ≡ 128) × ((k : ℕ) → k < i → getD out k past ≡ pairIn regret dist weight rank odd up (getD bytes k 0) b0 b1))
 
 abbrev μ-loop : tie.MeasureT-loop
 μ-loop regret dist weight rank odd up bytes b0 b1 out₀ i₀ out i = 128 - i
@@ -50,18 +51,28 @@ loop-less : tie.Need-loop-less Inv-loop μ-loop
 loop-less c = search needs
 
 loop-again : tie.Need-loop-again Inv-loop μ-loop
-loop-again c = let i = c .before .before .before .loop .inv in let s = c .before .before .before .before .before .before .args in (
-  omega arith,
-  (
-    simp length-set (i .1 .0),
-    filled-more Pair past (λ (k : ℕ). pairIn (s .regret .now) (s .dist .now) (s .weight .now) (s .rank .now) (s .odd .now) (s .up .now) (getD (s .bytes .now) k 0) (s .b0) (s .b1))
-        (c .before .before .before .loop .out) (c .before .before .before .loop .i) (c .base-pair .result) (omega arith) (c .base-pair .ensures) (i .1 .1),
-  ),
-)
+loop-again c =
+    let c4 = c .before .before .before .before in
+    let i = c .before .before .before .loop .inv in
+    let s = c4 .before .before .args in (
+      omega arith,
+      (
+        simp length-set (i .1 .0),
+        filled-more Pair past (λ (k : ℕ). pairIn (s .regret .now) (s .dist .now) (s .weight .now) (s .rank .now) (s .odd .now) (s .up .now)
+            (getD (s .bytes .now) k 0) (s .b0) (s .b1))
+            (c .before .before .before .loop .out) (c .before .before .before .loop .i) (c .base-pair .result) (omega arith) (c .base-pair .ensures)
+            (i .1 .1),
+      ),
+    )
 
 returns : tie.Need-returns Inv-loop μ-loop
-returns c = let e : c .before .loop .i ≡ 128 = omega arith in let i = c .before .loop .inv in let s = c .before .before .before .before .args in
-    filled Pair past 128 (λ (k : ℕ). pairIn (s .regret .now) (s .dist .now) (s .weight .now) (s .rank .now) (s .odd .now) (s .up .now) (getD (s .bytes .now) k 0) (s .b0) (s .b1)) (c .before .loop .out) (i .1 .0) (rw e at (i .1 .1))
+returns c =
+    let c4 = c .before .before .before .before in
+    let e : c .before .loop .i ≡ 128 = omega arith in
+    let i = c .before .loop .inv in
+    let s = c4 .args in
+    filled Pair past 128 (λ (k : ℕ). pairIn (s .regret .now) (s .dist .now) (s .weight .now) (s .rank .now) (s .odd .now) (s .up .now)
+    (getD (s .bytes .now) k 0) (s .b0) (s .b1)) (c .before .loop .out) (i .1 .0) (rw e at (i .1 .1))
 
 pub pairs-spec : {M : Type 1} → statement M
 pairs-spec =

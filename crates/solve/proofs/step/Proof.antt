@@ -1,7 +1,7 @@
--- `solve::step` meets its contract, by the three ways out. Assumes nothing.
+-- `solve::step` meets its contract: a candidate that is no nearer, one that is nearer and a member, one that is nearer and none. Assumes nothing.
 use Prim.Native.Nat.{ℕ}
 use mathlib.Core.Path.{_≡_, _∙_, sym}
-use mathlib.Core.Bool.{true, false}
+use mathlib.Core.Bool.{Bool, true, false, cond}
 use mathlib.Core.List.{List}
 use lib.ListN.{getD}
 use lib.Ieee.{Float, le}
@@ -15,79 +15,51 @@ use borrow.Author.Needs.{needs}
 use Rattle.solve.proofs.step.Statement.{statement}
 use Rattle.solve.proofs.step.Tie as tie
 
-module _ (d : Float) (weight rank : List ℕ) (bound : Closed) (n : Now) (best : Best) (j a a2 j2 b b2 : ℕ) {cost key : ℕ} (far : le (best .d) d ≡ false)
-    (hc : cost ≡ costIn weight (n .cost) a a2 b b2) (hk : key ≡ keyMoved (n .key) j (getD rank a2 0) j2 (getD rank b2 0)) where
-  met : holds bound cost key ≡ true → _≡_ {A = Best} (record { d = d; key = key; met = true }) (stepIn d weight rank bound n best j a a2 j2 b b2)
+module _ (d : Float) (weight rank : List ℕ) (bound : Closed) (n : Now) (best : Best) (j a a2 j2 b b2 : ℕ) where
+  far : le (best .d) d ≡ true → best ≡ stepIn d weight rank bound n best j a a2 j2 b b2
   unfolding stepIn
-  met h = simp (far, hk, (rw (hc, hk) at h))
+  far h = simp h
 
-  unmet : holds bound cost key ≡ false → best ≡ stepIn d weight rank bound n best j a a2 j2 b b2
+  near : {cost key : ℕ} {h : Bool} → le (best .d) d ≡ false → cost ≡ costIn weight (n .cost) a a2 b b2
+      → key ≡ keyMoved (n .key) j (getD rank a2 0) j2 (getD rank b2 0) → h ≡ holds bound cost key → (met : Bool) → h ≡ met
+      → cond met (record { d = d; key = key; met = true }) best ≡ stepIn d weight rank bound n best j a a2 j2 b b2
   unfolding stepIn
-  unmet h = simp (far, (rw (hc, hk) at h))
+  near l hc hk hh met e = simp (l, hk, (rw (hc, hk) at (sym hh ∙ e)))
 
 returns : tie.Need-returns
-unfolding stepIn
-returns c = simp (c .if1 .taken)
+returns c =
+    let s = c .before .before .args in
+    far (s .d) (s .weight .now) (s .rank .now) (s .bound) (s .n) (s .best) (s .j) (s .a) (s .a2) (s .j2) (s .b) (s .b2) (c .if1 .taken)
 
-mul-wide : tie.Need-mul-wide
-mul-wide c = search needs
-
-element-copy-out-wide : tie.Need-element-copy-out-wide
-element-copy-out-wide c = search needs
-
-wide-requires : tie.Need-wide-requires
-wide-requires c κs = search needs
+weight-at-requires : tie.Need-weight-at-requires
+weight-at-requires c κs = search needs
 
 sub-cost : tie.Need-sub-cost
 sub-cost c = search needs
 
-mul-wide-2 : tie.Need-mul-wide-2
-mul-wide-2 c = search needs
-
-element-copy-out-wide-2 : tie.Need-element-copy-out-wide-2
-element-copy-out-wide-2 c = search needs
-
-wide-requires-2 : tie.Need-wide-requires-2
-wide-requires-2 c κs = search needs
+weight-at-requires-2 : tie.Need-weight-at-requires-2
+weight-at-requires-2 c κs = search needs
 
 sub-cost-2 : tie.Need-sub-cost-2
 sub-cost-2 c = search needs
 
-mul-wide-3 : tie.Need-mul-wide-3
-mul-wide-3 c = search needs
-
-element-copy-out-wide-3 : tie.Need-element-copy-out-wide-3
-element-copy-out-wide-3 c = search needs
-
-wide-requires-3 : tie.Need-wide-requires-3
-wide-requires-3 c κs = search needs
+weight-at-requires-3 : tie.Need-weight-at-requires-3
+weight-at-requires-3 c κs = search needs
 
 add-cost : tie.Need-add-cost
 add-cost c = search needs
 
-mul-wide-4 : tie.Need-mul-wide-4
-mul-wide-4 c = search needs
-
-element-copy-out-wide-4 : tie.Need-element-copy-out-wide-4
-element-copy-out-wide-4 c = search needs
-
-wide-requires-4 : tie.Need-wide-requires-4
-wide-requires-4 c κs = search needs
+weight-at-requires-4 : tie.Need-weight-at-requires-4
+weight-at-requires-4 c κs = search needs
 
 add-cost-2 : tie.Need-add-cost-2
 add-cost-2 c = search needs
 
-element-copy-out-wide8 : tie.Need-element-copy-out-wide8
-element-copy-out-wide8 c = search needs
+rank-at-requires : tie.Need-rank-at-requires
+rank-at-requires c κs = search needs
 
-wide8-requires : tie.Need-wide8-requires
-wide8-requires c κs = search needs
-
-element-copy-out-wide8-2 : tie.Need-element-copy-out-wide8-2
-element-copy-out-wide8-2 c = search needs
-
-wide8-requires-2 : tie.Need-wide8-requires-2
-wide8-requires-2 c κs = search needs
+rank-at-requires-2 : tie.Need-rank-at-requires-2
+rank-at-requires-2 c κs = search needs
 
 key-moved-requires : tie.Need-key-moved-requires
 key-moved-requires c κs = search needs
@@ -96,44 +68,54 @@ holds-requires : tie.Need-holds-requires
 holds-requires c κs = search needs
 
 returns-2 : tie.Need-returns-2
-returns-2 c = let s = c .before .before .before .before .before .before .before .before .before .before .before .before .before .before .before .before .before .before .args in
-    met (s .d) (s .weight .now) (s .rank .now) (s .bound) (s .n) (s .best) (s .j) (s .a) (s .a2) (s .j2) (s .b) (s .b2) (c .before .before .before .before .before .before .before .before .before .before .before .before .before .before .before .before .if1 .left)
-    (simp (c .before .before .before .before .before .before .before .before .before .before .before .before .before .before .wide .ensures .0, c .before .before .before .before .before .before .before .before .before .before .before .wide2 .ensures .0, c .before .before .before .before .before .before .before .before .before .wide3 .ensures .0, c .before .before .before .before .before .before .before .wide4 .ensures .0))
-    (c .before .before .key-moved .ensures ∙ simp (c .before .before .before .before .before .wide8 .ensures .0, c .before .before .before .wide82 .ensures .0))
-    (sym (c .before .holds .ensures) ∙ c .if2 .taken)
+returns-2 c =
+    let c4 = c .before .before .before .before in
+    let w = c4 .before in
+    let test = w .before .before .before .before .before in
+    let s = test .before .before .args in
+    near (s .d) (s .weight .now) (s .rank .now) (s .bound) (s .n) (s .best) (s .j) (s .a) (s .a2) (s .j2) (s .b) (s .b2)
+    (test .if1 .left)
+    (simp (
+      w .before .before .before .before .weight-at .ensures .0,
+      w .before .before .weight-at2 .ensures .0,
+      w .before .weight-at3 .ensures .0,
+      w .weight-at4 .ensures .0,
+    ))
+    (c .before .before .key-moved .ensures ∙ simp (c4 .rank-at .ensures .0, c .before .before .before .rank-at2 .ensures .0))
+    (c .before .holds .ensures) true (c .if2 .taken)
 
 returns-3 : tie.Need-returns-3
-returns-3 c = let s = c .before .before .before .before .before .before .before .before .before .before .before .before .before .before .before .before .before .before .args in
-    unmet (s .d) (s .weight .now) (s .rank .now) (s .bound) (s .n) (s .best) (s .j) (s .a) (s .a2) (s .j2) (s .b) (s .b2) (c .before .before .before .before .before .before .before .before .before .before .before .before .before .before .before .before .if1 .left)
-    (simp (c .before .before .before .before .before .before .before .before .before .before .before .before .before .before .wide .ensures .0, c .before .before .before .before .before .before .before .before .before .before .before .wide2 .ensures .0, c .before .before .before .before .before .before .before .before .before .wide3 .ensures .0, c .before .before .before .before .before .before .before .wide4 .ensures .0))
-    (c .before .before .key-moved .ensures ∙ simp (c .before .before .before .before .before .wide8 .ensures .0, c .before .before .before .wide82 .ensures .0))
-    (sym (c .before .holds .ensures) ∙ c .if2 .left)
+returns-3 c =
+    let c4 = c .before .before .before .before in
+    let w = c4 .before in
+    let test = w .before .before .before .before .before in
+    let s = test .before .before .args in
+    near (s .d) (s .weight .now) (s .rank .now) (s .bound) (s .n) (s .best) (s .j) (s .a) (s .a2) (s .j2) (s .b) (s .b2)
+    (test .if1 .left)
+    (simp (
+      w .before .before .before .before .weight-at .ensures .0,
+      w .before .before .weight-at2 .ensures .0,
+      w .before .weight-at3 .ensures .0,
+      w .weight-at4 .ensures .0,
+    ))
+    (c .before .before .key-moved .ensures ∙ simp (c4 .rank-at .ensures .0, c .before .before .before .rank-at2 .ensures .0))
+    (c .before .holds .ensures) false (c .if2 .left)
 
 pub step-spec : {M : Type 1} → statement M
 step-spec =
     tie.close
     (tie.spec
     returns
-    mul-wide
-    element-copy-out-wide
-    wide-requires
+    weight-at-requires
     sub-cost
-    mul-wide-2
-    element-copy-out-wide-2
-    wide-requires-2
+    weight-at-requires-2
     sub-cost-2
-    mul-wide-3
-    element-copy-out-wide-3
-    wide-requires-3
+    weight-at-requires-3
     add-cost
-    mul-wide-4
-    element-copy-out-wide-4
-    wide-requires-4
+    weight-at-requires-4
     add-cost-2
-    element-copy-out-wide8
-    wide8-requires
-    element-copy-out-wide8-2
-    wide8-requires-2
+    rank-at-requires
+    rank-at-requires-2
     key-moved-requires
     holds-requires
     returns-2

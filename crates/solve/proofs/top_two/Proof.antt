@@ -1,4 +1,5 @@
--- `solve::top_two` meets its contract. The invariant: the two coordinates are those of the first i + 2, and the two numbers beside them are their regrets. Assumes nothing.
+-- `solve::top_two` meets its contract. The invariant: the two coordinates are those of the first i + 2, and the two numbers beside them are
+-- their regrets. Assumes nothing.
 use Prim.Native.Nat.{ℕ, suc, _≤_, _-_, _+_}
 use mathlib.Core.Path.{_≡_}
 use mathlib.Core.Bool.{Bool, true, false, cond}
@@ -55,12 +56,14 @@ module _ (regret : List Float) (at : List ℕ) where
         (
           rw (g0, h0, p0, e) (cond-ap ℕ Float r (lt (r j0) (r (n + 2))) (n + 2) j0),
           rw (g1, h1, g3, h3, p0, p1, e)
-              (rw (cond-ap ℕ Float r (lt (r j1) (r (n + 2))) (n + 2) j1) (cond-ap ℕ Float r (lt (r j0) (r (n + 2))) j0 (cond (lt (r j1) (r (n + 2))) (n + 2) j1))),
+              (rw (cond-ap ℕ Float r (lt (r j1) (r (n + 2))) (n + 2) j1) (cond-ap ℕ Float r (lt (r j0) (r (n + 2))) j0
+              (cond (lt (r j1) (r (n + 2))) (n + 2) j1))),
         ),
       )
 
 abbrev Inv-loop : tie.InvT-loop
-Inv-loop regret at a0 x0 a1 x1 s j0₀ j1₀ m0₀ m1₀ i₀ j0 j1 m0 m1 i = (i ≤ 6) × ((_≡_ {A = Top} (record { j0 = j0; j1 = j1 }) (topIn regret at i)) × ((m0 ≡ regretAt regret at j0) × (m1 ≡ regretAt regret at j1)))
+Inv-loop regret at a0 x0 a1 x1 s j0₀ j1₀ m0₀ m1₀ i₀ j0 j1 m0 m1 i =
+    (i ≤ 6) × ((_≡_ {A = Top} (record { j0 = j0; j1 = j1 }) (topIn regret at i)) × ((m0 ≡ regretAt regret at j0) × (m1 ≡ regretAt regret at j1)))
 
 abbrev μ-loop : tie.MeasureT-loop
 μ-loop regret at a0 x0 a1 x1 s j0₀ j1₀ m0₀ m1₀ i₀ j0 j1 m0 m1 i = 6 - i
@@ -97,8 +100,14 @@ which-f-requires-2 c κs = search needs
 
 loop-holds : tie.Need-loop-holds Inv-loop μ-loop
 unfolding topIn
-loop-holds c = let s = c .before .before .before .before .before .before .before .before .args in
-    (omega arith, started (s .regret .now) (s .at .now) (c .before .before .before .before .before .before .before .place .ensures .0) (c .before .before .before .before .before .place2 .ensures .0) (c .before .before .before .which .ensures) (c .before .before .which2 .ensures) (c .before .which-f .ensures) (c .which-f2 .ensures))
+loop-holds c =
+    let c4 = c .before .before .before .before in
+    let c8 = c4 .before .before .before .before in
+    let s = c8 .args in (
+      omega arith,
+      started (s .regret .now) (s .at .now) (c4 .before .before .before .place .ensures .0) (c4 .before .place2 .ensures .0)
+          (c .before .before .before .which .ensures) (c .before .before .which2 .ensures) (c .before .which-f .ensures) (c .which-f2 .ensures),
+    )
 
 add-place : tie.Need-add-place Inv-loop μ-loop
 add-place c = search needs
@@ -143,12 +152,24 @@ loop-less : tie.Need-loop-less Inv-loop μ-loop
 loop-less c = search needs
 
 loop-again : tie.Need-loop-again Inv-loop μ-loop
-loop-again c = let i = c .before .before .before .before .before .before .before .before .before .loop .inv in let s = c .before .before .before .before .before .before .before .before .before .before .before .before .before .before .before .before .before .before .args in
-    (omega arith, rw add-one (turned (s .regret .now) (s .at .now) (c .before .before .before .before .before .before .before .before .before .loop .i) (i .1 .0) (i .1 .1 .0) (i .1 .1 .1) (c .before .before .before .before .before .before .before .place3 .ensures .0) (c .before .before .before .before .before .which3 .ensures) (c .before .before .before .before .which4 .ensures) (c .before .before .before .which-f3 .ensures) (c .before .before .which-f4 .ensures) (c .before .which5 .ensures) (c .which-f5 .ensures)))
+loop-again c =
+    let c4 = c .before .before .before .before in
+    let c8 = c4 .before .before .before .before in
+    let c16 = c8 .before .before .before .before .before .before .before .before in
+    let i = c8 .before .loop .inv in
+    let s = c16 .before .before .args in (
+      omega arith,
+      rw add-one (turned (s .regret .now) (s .at .now) (c8 .before .loop .i) (i .1 .0) (i .1 .1 .0) (i .1 .1 .1)
+          (c4 .before .before .before .place3 .ensures .0) (c4 .before .which3 .ensures) (c4 .which4 .ensures)
+          (c .before .before .before .which-f3 .ensures) (c .before .before .which-f4 .ensures) (c .before .which5 .ensures) (c .which-f5 .ensures)),
+    )
 
 returns : tie.Need-returns Inv-loop μ-loop
-returns c = let e : c .before .loop .i ≡ 6 = omega arith in let q = rw e at (c .before .loop .inv .1 .0) in
-    let s = c .before .before .before .before .before .before .before .before .before .before .args in (q, rw (← q) at (apart (s .regret .now) (s .at .now) 6))
+returns c =
+    let c8 = c .before .before .before .before .before .before .before .before in
+    let e : c .before .loop .i ≡ 6 = omega arith in
+    let q = rw e at (c .before .loop .inv .1 .0) in
+    let s = c8 .before .before .args in (q, rw (← q) at (apart (s .regret .now) (s .at .now) 6))
 
 pub top-two-spec : {M : Type 1} → statement M
 top-two-spec =

@@ -13,7 +13,8 @@ use Rattle.solve.proofs.turn.Tie as tie
 
 both : (dist : List Float) (weight rank : List ℕ) (bound : Closed) (n : Now) (best : Best) (j a j2 b b2 : ℕ) {down x : Best}
     → down ≡ stepIn (distIn dist (n .dist) a (a - 1) b b2) weight rank bound n best j a (a - 1) j2 b b2
-    → x ≡ stepIn (distIn dist (n .dist) a (a + 1) b b2) weight rank bound n down j a (a + 1) j2 b b2 → x ≡ turnIn dist weight rank bound n best j a j2 b b2
+    → x ≡ stepIn (distIn dist (n .dist) a (a + 1) b b2) weight rank bound n down j a (a + 1) j2 b b2
+    → x ≡ turnIn dist weight rank bound n best j a j2 b b2
 unfolding turnIn
 both dist weight rank bound n best j a j2 b b2 d u = rw (u, d)
 
@@ -29,6 +30,12 @@ mul-x-2 c = search needs
 element-copy-out-x-2 : tie.Need-element-copy-out-x-2
 element-copy-out-x-2 c = search needs
 
+mul-y : tie.Need-mul-y
+mul-y c = search needs
+
+element-copy-out-y : tie.Need-element-copy-out-y
+element-copy-out-y c = search needs
+
 sub-d : tie.Need-sub-d
 sub-d c = search needs
 
@@ -37,12 +44,6 @@ mul-d c = search needs
 
 element-copy-out-d : tie.Need-element-copy-out-d
 element-copy-out-d c = search needs
-
-mul-d-2 : tie.Need-mul-d-2
-mul-d-2 c = search needs
-
-element-copy-out-d-2 : tie.Need-element-copy-out-d-2
-element-copy-out-d-2 c = search needs
 
 sub-step : tie.Need-sub-step
 sub-step c = search needs
@@ -59,12 +60,6 @@ mul-e c = search needs
 element-copy-out-e : tie.Need-element-copy-out-e
 element-copy-out-e c = search needs
 
-mul-e-2 : tie.Need-mul-e-2
-mul-e-2 c = search needs
-
-element-copy-out-e-2 : tie.Need-element-copy-out-e-2
-element-copy-out-e-2 c = search needs
-
 add-step : tie.Need-add-step
 add-step c = search needs
 
@@ -72,8 +67,10 @@ step-requires-2 : tie.Need-step-requires-2
 step-requires-2 c κs = search needs
 
 returns : tie.Need-returns
-returns c = let s = c .before .before .before .before .before .before .before .before .before .args in
-    both (s .dist .now) (s .weight .now) (s .rank .now) (s .bound) (s .n) (s .best) (s .j) (s .a) (s .j2) (s .b) (s .b2) (c .before .before .before .step .ensures) (c .step2 .ensures)
+returns c =
+    let s = c .before .before .before .before .before .before .before .before .args in
+    both (s .dist .now) (s .weight .now) (s .rank .now) (s .bound) (s .n) (s .best) (s .j) (s .a) (s .j2) (s .b) (s .b2)
+    (c .before .before .step .ensures) (c .step2 .ensures)
 
 pub turn-spec : {M : Type 1} → statement M
 turn-spec =
@@ -83,18 +80,16 @@ turn-spec =
     element-copy-out-x
     mul-x-2
     element-copy-out-x-2
+    mul-y
+    element-copy-out-y
     sub-d
     mul-d
     element-copy-out-d
-    mul-d-2
-    element-copy-out-d-2
     sub-step
     step-requires
     add-e
     mul-e
     element-copy-out-e
-    mul-e-2
-    element-copy-out-e-2
     add-step
     step-requires-2
     returns)
