@@ -3,8 +3,8 @@ use mathlib.Core.Path.{_∙_, subst, sym}
 use mathlib.Core.Bool.{Bool, true, false, _&&_}
 use mathlib.Core.List.{List, [], _∷_}
 use Prim.Native.Nat.{ℕ, zero, suc, _+_, _<_}
-use native.Mathlib.Nat.{add-zero, zero-add, add-suc, suc-add, le-of-suc-le-suc, not-suc-le-zero, lt-trans}
-use lib.Dec.{T, ltb, ltb→lt}
+use native.Mathlib.Nat.{add-zero, zero-add, add-suc, suc-add, le-of-suc-le-suc, not-suc-le-zero}
+use lib.Dec.{T}
 use lib.ListN.{length, getD}
 use Rattle.laws.specs.Tests.{and-left, and-right}
 
@@ -43,22 +43,30 @@ pub at2 : (f : ℕ → ℕ → ℕ → Bool) (xs ys : List ℕ) → T (every2 f 
     → T (f k (getD xs k 0) (getD ys k 0))
 at2 f xs ys t k h = subst (λ (m : ℕ). T (f m (getD xs k 0) (getD ys k 0))) (zero-add k) (from2 f xs ys 0 t k h)
 
--- ---- f ascends along the list, from above p on
-module _ (f : ℕ → ℕ) where
-  abbrev pub ascBy : ℕ → List ℕ → Bool
-  ascBy p [] = true
-  ascBy p (x ∷ xs) = ltb p (f x) && ascBy (f x) xs
+-- ---- along the list each entry stands before the next; where that is transitive, each stands before all that follow
+module _ (b : ℕ → ℕ → Bool) where
+  abbrev chainFrom : ℕ → List ℕ → Bool
+  chainFrom p [] = true
+  chainFrom p (x ∷ xs) = b p x && chainFrom x xs
 
-  above : (p : ℕ) (xs : List ℕ) → T (ascBy p xs) → (k : ℕ) → k < length xs → p < f (getD xs k 0)
-  above p [] t k h = absurd (not-suc-le-zero h)
-  above p (x ∷ xs) t zero h = ltb→lt p (f x) (and-left (ltb p (f x)) (ascBy (f x) xs) t)
-  above p (x ∷ xs) t (suc k) h =
-      lt-trans (ltb→lt p (f x) (and-left (ltb p (f x)) (ascBy (f x) xs) t))
-      (above (f x) xs (and-right (ltb p (f x)) (ascBy (f x) xs) t) k (le-of-suc-le-suc h))
+  abbrev pub chain : List ℕ → Bool
+  chain [] = true
+  chain (x ∷ xs) = chainFrom x xs
 
-  pub asc-lt : (p : ℕ) (xs : List ℕ) → T (ascBy p xs) → (i j : ℕ) → i < j → j < length xs → f (getD xs i 0) < f (getD xs j 0)
-  asc-lt p [] t i j h k = absurd (not-suc-le-zero k)
-  asc-lt p (x ∷ xs) t i zero h k = absurd (not-suc-le-zero h)
-  asc-lt p (x ∷ xs) t zero (suc j) h k = above (f x) xs (and-right (ltb p (f x)) (ascBy (f x) xs) t) j (le-of-suc-le-suc k)
-  asc-lt p (x ∷ xs) t (suc i) (suc j) h k =
-      asc-lt (f x) xs (and-right (ltb p (f x)) (ascBy (f x) xs) t) i j (le-of-suc-le-suc h) (le-of-suc-le-suc k)
+  module _ (trans : (x y z : ℕ) → T (b x y) → T (b y z) → T (b x z)) where
+    follows : (p : ℕ) (xs : List ℕ) → T (chainFrom p xs) → (k : ℕ) → k < length xs → T (b p (getD xs k 0))
+    follows p [] t k h = absurd (not-suc-le-zero h)
+    follows p (x ∷ xs) t zero h = and-left (b p x) (chainFrom x xs) t
+    follows p (x ∷ xs) t (suc k) h =
+        trans p x (getD xs k 0) (and-left (b p x) (chainFrom x xs) t)
+        (follows x xs (and-right (b p x) (chainFrom x xs) t) k (le-of-suc-le-suc h))
+
+    tail : (p : ℕ) (xs : List ℕ) → T (chainFrom p xs) → T (chain xs)
+    tail p [] t = tt
+    tail p (x ∷ xs) t = and-right (b p x) (chainFrom x xs) t
+
+    pub chain-at : (xs : List ℕ) → T (chain xs) → (i j : ℕ) → i < j → j < length xs → T (b (getD xs i 0) (getD xs j 0))
+    chain-at [] t i j h k = absurd (not-suc-le-zero k)
+    chain-at (x ∷ xs) t i zero h k = absurd (not-suc-le-zero h)
+    chain-at (x ∷ xs) t zero (suc j) h k = follows x xs t j (le-of-suc-le-suc k)
+    chain-at (x ∷ xs) t (suc i) (suc j) h k = chain-at xs (tail x xs t) i j (le-of-suc-le-suc h) (le-of-suc-le-suc k)

@@ -1,3 +1,2 @@
 pub mod Growth
-pub mod InOrder
 pub mod Listed

@@ -1,3 +1,4 @@
+pub mod Ascending
 pub mod Xor
 pub mod Linear
 pub mod Words

@@ -1,20 +1,31 @@
 -- What the listing is: 14,674 rows (`count`), each the packing of eight ranks of cost below 128 (`each`), every such vector among them
 -- (`complete`), in lexicographic order, coordinate 0 most significant (`ordered`), and so each once (`once`). Assumes nothing.
-use mathlib.Core.Path.{_≡_, refl, sym}
+use mathlib.Core.Path.{_≡_, refl, sym, subst}
 use mathlib.Core.Bool.{Bool, _&&_}
-use mathlib.Core.List.{List, Memᴰ·cast}
-use Prim.Native.Nat.{ℕ, _+_, _*_, _-_, _^_, _<_}
+use mathlib.Core.List.{List, [], _∷_, Memᴰ·cast, List·Memᴰ, List·Memᴰ·head, List·Memᴰ·tail, List·Memᴰ·not-nil}
+use Prim.Native.Nat.{ℕ, suc, _+_, _*_, _-_, _^_, _<_, suc-le-suc}
+use native.Mathlib.Nat.{zero-lt-suc}
 use native.Mathlib.Omega.{arith}
 use lib.Dec.{T, ltb, eqb, ltb→lt, eqb→eq}
 use lib.ListN.{length, getD}
 use Rattle.laws.specs.Tests.{and-left, and-right}
-use Rattle.laws.specs.Tables.{every, at}
-use Rattle.laws.specs.Order.{lexLt}
-use Rattle.rank.specs.Laws.Vector.{lexLt-trans}
+use Rattle.laws.specs.Tables.{every, at, chain, chain-at}
+use Rattle.laws.specs.Order.{lexLt, pick3-same}
 use Rattle.rank.specs.Vector.{cost, pack, unpack, ranksBelow}
+use Rattle.rank.specs.Laws.Vector.{lexLt-trans}
 use Rattle.listing.specs.Listing.{grow, under, listing}
 use Rattle.listing.specs.Laws.Growth.{reach}
-use Rattle.listing.specs.Laws.InOrder.{lexLt-irrefl, chain, chain-at, place-of}
+
+-- ---- no rank vector stands before itself
+lexLt-irrefl : (v : List ℕ) → T (lexLt v v) → ⊥
+lexLt-irrefl [] t = t
+lexLt-irrefl (x ∷ v) t = lexLt-irrefl v (subst T (pick3-same x x (lexLt v v) refl) t)
+
+-- ---- a member of a list stands at some place of it
+place-of : (A : Type 0) (d x : A) (l : List A) → List·Memᴰ x l → (i : ℕ) × (i < length l) × (getD l i d ≡ x)
+place-of A d x [] m = absurd (List·Memᴰ·not-nil m)
+place-of A d x (y ∷ l) (List·Memᴰ·head e) = (0, zero-lt-suc (length l), sym e)
+place-of A d x (y ∷ l) (List·Memᴰ·tail m) = let p = place-of A d x l m in (suc (p .0), suc-le-suc (p .1), p .2)
 
 -- ---- how many
 pub count : length listing ≡ 14674

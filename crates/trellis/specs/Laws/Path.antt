@@ -13,7 +13,7 @@ use lib.Seq.{getD-take, getD-drop, length-take-le, take-nil}
 use lib.Pow.{pow-pos}
 use lib.Bits.{bitXor}
 use Rattle.laws.specs.Tests.{and-left, and-right, upto, below}
-use Rattle.laws.specs.Tables.{every, ascBy, asc-lt}
+use Rattle.laws.specs.Tables.{every}
 use Rattle.laws.specs.Trees.{Tree, build, get, get-build}
 use Rattle.trellis.specs.Code.{wordOf, columns, first, second, third}
 use Rattle.trellis.specs.Tables.{prefixes, middles, nexts, suffixes}
@@ -21,6 +21,7 @@ use Rattle.trellis.specs.Trellis.{row, prefixOf, middleOf, nextOf, suffi
 use Rattle.trellis.specs.Laws.Linear.{allBelow}
 use Rattle.trellis.specs.Laws.Words.{words, at-word}
 use Rattle.trellis.specs.Laws.Code.{label-low}
+use Rattle.trellis.specs.Laws.Ascending.{ascBy, asc-lt}
 
 -- ---- rows of a table
 pub row-at : (n : ℕ) (t : List ℕ) (s b : ℕ) → b < n → getD (row n t s) b 0 ≡ getD t (n * s + b) 0

@@ -11,7 +11,7 @@ use lib.ListN.{length, getD, length-map}
 use lib.Pow.{pow-pos, split}
 use lib.Bits.{bitXor, xor-comm, xor-self, xor-zero-r, xor-shifted}
 use Rattle.laws.specs.Tests.{and-left, and-right, split3, implies, modus, eq→eqb, or-left, or-right}
-use Rattle.laws.specs.Tables.{every, at, ascBy, asc-lt}
+use Rattle.laws.specs.Tables.{every, at}
 use Rattle.laws.specs.Trees.{Tree, build, get, get-build}
 use Rattle.trellis.specs.Laws.Xor.{xor-zero}
 use Rattle.trellis.specs.Code.{wordOf, columns}
@@ -22,6 +22,7 @@ use Rattle.trellis.specs.Laws.Path.{nextTree, next-read, next-lt}
 use Rattle.trellis.specs.Tables.{nexts}
 use Rattle.trellis.specs.Laws.Words.{words, wordsOf, words-at, words-length, at-word}
 use Rattle.trellis.specs.Laws.Code.{label-low, back-at, backColumns}
+use Rattle.trellis.specs.Laws.Ascending.{ascBy, asc-lt}
 
 -- ---- what one test along the codewords shows of a cut. At the codeword w of the label z, in the state s:
 -- where w lies on one side, the state is 0
