@@ -25,9 +25,12 @@ pub mod Steps
 pub mod Pairs
 pub mod Bases
 pub mod Solve
--- all of it put together, in trio order, at the constant tables
+-- all of it put together, in trio order, at the constant tables; what is searched; in natural order
 pub mod Reach
 pub mod Premises
 pub mod Sections
 pub mod TableFacts
+pub mod Searched
 pub mod Natural
+-- a point as its own target
+pub mod OnPoint

@@ -9,7 +9,6 @@ use lib.ListN.{getD, length, take, drop}
 use lib.Seq.{ext-getD}
 use lib.IntN.{ℤ, pos}
 use Rattle.laws.specs.Lists.{tab, tab-at, tab-length, append-at, append-past}
-use Rattle.laws.specs.Bits.{weight}
 use Rattle.laws.specs.Whole.{modZ}
 use Rattle.rank.specs.Coord.{valOf}
 use Rattle.rank.specs.Vector.{class, unpack, ranksBelow, inClass, inMiddle}
@@ -17,8 +16,7 @@ use Rattle.rank.specs.Laws.Vector.{unpack-at}
 use Rattle.rank.specs.Section as section
 use Rattle.rank.specs.Laws.Section.{point-uniform, point-bits, point-ranks, point-length}
 use Rattle.rows.specs.Laws.Vectors.{below-up, class-ranks, middle-class}
-use Rattle.trellis.specs.Code.{wordOf, columns, label}
-use Rattle.trellis.specs.Code as code
+use Rattle.trellis.specs.Code.{wordOf, columns, label, weight}
 use Rattle.trellis.specs.Laws.Code.{word-lt, bytes-even}
 use Rattle.trellis.specs.Tables.{prefixes, middles, nexts, suffixes}
 use Rattle.trellis.specs.Trellis.{prefixOf, middleOf, nextOf, suffixOf, s8Of, b1Of, b2Of, b3Of}
@@ -28,7 +26,7 @@ use Rattle.trellis.specs.Laws.Trio.{trio-fits}
 use Rattle.tetra.specs.Lattice.{trio, Codeword, sectionRanks, inOwnClass, HasWord}
 use Rattle.tetra.specs.Tetra.{natural}
 use Rattle.tetra.specs.Laws.Orders.{natural-length, natural-at, trio-natural, parity-natural}
-use Rattle.tetra.specs.Laws.Point.{weight-same, ranks-part, below-append, point-at}
+use Rattle.tetra.specs.Laws.Point.{ranks-part, below-append, point-at}
 use Rattle.tetra.specs.Laws.Word.{sum-classes}
 use Rattle.search.specs.declared.Entry.{Entry}
 use Rattle.search.specs.declared.Winner.{Winner}
@@ -122,16 +120,14 @@ module _ (p : ℕ) (P0 : p < 2) (e1 e2 e3 : Entry) (H : Through p e1 e2 e3) wher
 
   -- so each has an even number of set bits
   even1 : weight 8 (e1 .byte) % 2 ≡ 0
-  even1 = ap (λ (n : ℕ). n % 2) (weight-same 8 (e1 .byte)
-      ∙ ap (code.weight 8) (sym (first-at x ∙ ap₂ prefixOf (parts .0) (parts .1) ∙ path1))) ∙ bytes-even x .0
+  even1 = subst (λ (c : ℕ). weight 8 c % 2 ≡ 0) (first-at x ∙ ap₂ prefixOf (parts .0) (parts .1) ∙ path1) (bytes-even x .0)
 
   even2 : weight 8 (e2 .byte) % 2 ≡ 0
-  even2 = ap (λ (n : ℕ). n % 2) (weight-same 8 (e2 .byte)
-      ∙ ap (code.weight 8) (sym (second-at x ∙ ap₂ middleOf (parts .0) (parts .2) ∙ path2))) ∙ bytes-even x .1
+  even2 = subst (λ (c : ℕ). weight 8 c % 2 ≡ 0) (second-at x ∙ ap₂ middleOf (parts .0) (parts .2) ∙ path2) (bytes-even x .1)
 
   even3 : weight 8 (e3 .byte) % 2 ≡ 0
-  even3 = ap (λ (n : ℕ). n % 2) (weight-same 8 (e3 .byte)
-      ∙ ap (code.weight 8) (sym (third-at x ∙ ap₂ suffixOf (ap₂ nextOf (parts .0) (parts .2)) (parts .3) ∙ path3))) ∙ bytes-even x .2
+  even3 =
+      subst (λ (c : ℕ). weight 8 c % 2 ≡ 0) (third-at x ∙ ap₂ suffixOf (ap₂ nextOf (parts .0) (parts .2)) (parts .3) ∙ path3) (bytes-even x .2)
 
   -- ---- the three rows
   abbrev v1 : List ℕ

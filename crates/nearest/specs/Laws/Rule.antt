@@ -23,7 +23,8 @@ use Rattle.search.specs.declared.Best.{Best}
 use Rattle.search.specs.declared.Top.{Top}
 use Rattle.search.specs.Bound.{holds}
 use Rattle.search.specs.Base.{parTo, worstTo, slotOf, towardOf, nowTo, keySet, stepped}
-use Rattle.search.specs.Solve.{otherOf, secondOf, fixOf, topTo, stepOf, movedD, movedC, keyMoved, moveAt, movesTo, keptBase, layerAt, unmet, firstBase, layersTo, solve}
+use Rattle.search.specs.Solve.{otherOf, secondOf, fixOf, topTo, stepOf}
+use Rattle.search.specs.Solve.{movedD, movedC, keyMoved, moveAt, movesTo, keptBase, layerAt, unmet, firstBase, layersTo, solve}
 use Rattle.nearest.specs.Laws.Forms.{oddK, sumTo, parK}
 use Rattle.nearest.specs.Laws.Sums.{sum-same, sum-set}
 use Rattle.nearest.specs.Laws.Ints.{odd-suc}
