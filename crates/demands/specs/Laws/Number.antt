@@ -1,6 +1,6 @@
 -- What the number 0 says of a call at a scale: its quotients are an accepted target, 24 finite doubles of at most a million in size. And the
 -- scales which `encode` derives are doubles. An array of samples holds 24 doubles, which is what `length` and `AllFit` say here. Assumes nothing.
-use mathlib.Core.Path.{_≡_, refl, sym, ap, _∙_, subst}
+use mathlib.Core.Path.{_≡_, refl, sym, _∙_, subst}
 use mathlib.Core.Bool.{Bool, true, false, cond, not}
 use mathlib.Core.List.{List, [], _∷_}
 use Prim.Native.Nat.{ℕ, zero, suc, _+_, _*_, _^_, _≤_, _<_}

@@ -10,7 +10,7 @@ use borrow.Author.Tests.{ne-eqb}
 use lib.Dec.{T, eqb, eqb→eq, lit≤}
 use lib.ListN.{getD, length}
 use lib.IntN.{ℤ, pos, negsuc, natAbs}
-use lib.Ieee.{Float, nan, binary64, ofInt, div, lt, toBits, ofBits}
+use lib.Ieee.{Float, binary64, ofInt, div, lt, toBits, ofBits}
 use lib.Ieee.Fits.{div-fits, ofInt-fits}
 use lib.Ieee.Bits.{ofBits-toBits}
 use Rattle.laws.specs.Tests.{and-left, and-right, upto, below}
