@@ -1,11 +1,11 @@
 -- DEMAND 3: nearest points. Take a target of 24 finite doubles. If a point that has a word is nearer to the target than every other point of
 -- the Leech lattice, by more than 2 ^ -20 in exact squared distance, the search returns that point, at every setting of the shrinks.
 --
--- What the words mean. The target of a call is x / s, 24 doubles (`quotientsOf`, float/specs/Calls; they are finite where samples and scale
--- are accepted). `LatticePoint` and `HasWord` are those of document 01 (tetra/specs/Lattice): points are lists of 24 whole
--- numbers in natural order. `sqDist y t` is the exact squared distance in units of 2 ^ -2148 (float/specs/Distance), and `margin` is 2 ^ -20 in
--- those units. `winnerFor ps n t` is the answer of the search over the parities ps at setting n (search/specs/Block), `pointFrom` its point.
--- Assumes nothing.
+-- What the words mean. The target of a call is x / s, 24 doubles (`quotientsOf`, float/specs/Calls), which are finite where samples and scale
+-- are accepted. `LatticePoint` and `HasWord` are those of document 01 (tetra/specs/Lattice): points are lists of 24 whole numbers in natural
+-- order. `sqDist y t` is the exact squared distance in units of 2 ^ -2148 (float/specs/Distance), and `margin` is 2 ^ -20 in those units.
+-- `winnerFor ps n t` is the answer of the search over the parities ps at setting n (search/specs/Block), `pointFrom` its point. Over the
+-- public call the theorem is `nearest-at-scale` (demands/specs/Nearest). Assumes nothing.
 use mathlib.Core.Path.{_≡_}
 use mathlib.Core.Logic.{_≢_}
 use mathlib.Core.Bool.{true}

@@ -1,11 +1,11 @@
 -- The entries of the join: before the last join every one has a finite value, and an exact one holds a member.
-use mathlib.Core.Path.{_≡_, refl, sym, _∙_, subst}
+use mathlib.Core.Path.{_≡_, refl, sym, subst}
 use mathlib.Core.Logic.{_⊎_, inl, inr}
 use mathlib.Core.Bool.{Bool, true, false, cond, _&&_}
 use mathlib.Core.List.{List}
 use Prim.Native.Nat.{ℕ, _^_, _≤_, _<_}
 use native.Mathlib.Nat.{le-refl, lt-of-lt-of-le}
-use lib.Dec.{T, lit≤}
+use lib.Dec.{lit≤}
 use lib.ListN.{getD}
 use lib.Ieee.{Float, nan, lt}
 use Rattle.rank.specs.Vector.{sq, unpack, boundCost, boundCut}
@@ -24,7 +24,7 @@ use Rattle.fallbacks.specs.Region.{byteOf, keyOf}
 use Rattle.fallbacks.specs.Laws.Member.{member-packed, member-in}
 use Rattle.nearest.specs.Laws.Forms.{sumTo, RuleOk}
 use Rattle.nearest.specs.Laws.Keys.{kAt, val-is, nib-lt}
-use Rattle.nearest.specs.Laws.Under.{lt-inf}
+use Rattle.nearest.specs.Laws.Under.{clash, lt-inf}
 use Rattle.nearest.specs.Laws.Shape.{oAt, o-lt}
 use Rattle.nearest.specs.Laws.Packed.{packed-lt, packed-holds, class-bound, cut-size, cut-below}
 use Rattle.nearest.specs.Laws.Entries.{EndByte, entryOf, better-keeps}
@@ -76,17 +76,14 @@ module _ (Byte : ℕ → Type 0) (p r : ℕ) (b : Closed) where
   settle-fine : (s : Start) → Begun s → Fine Byte p r b (settle s)
   settle-fine s f = go (s .loose) (lt (s .lb) (s .ent .value)) refl
     where
-      no-way : false ≡ true → ⊥
-      no-way q = subst T (sym q) tt
-
       bound : (s .lb ≡ infinity) ⊎ Below Far (s .lb) → lt (s .lb) (s .ent .value) ≡ true → Below Far (s .lb)
-      bound (inl e) q = absurd (no-way
-          (sym (lt-inf (s .ent .value) (f .ent .good .below .fin)) ∙ subst (λ (z : Float). lt z (s .ent .value) ≡ true) e q))
+      bound (inl e) q =
+          absurd (clash (subst (λ (z : Float). lt z (s .ent .value) ≡ true) e q) (lt-inf (s .ent .value) (f .ent .good .below .fin)))
       bound (inr d) q = d
 
       go : (m l : Bool) → lt (s .lb) (s .ent .value) ≡ l
           → Fine Byte p r b (cond (m && l) (record { value = s .lb; exact = false; byte = s .ent .byte; key = s .ent .key }) (s .ent))
-      go true true q = record { below = bound (f .lb) q; held = λ w. absurd (no-way w) }
+      go true true q = record { below = bound (f .lb) q; held = λ w. absurd (clash w refl) }
       go true false q = held-fine (f .ent)
       go false l q = held-fine (f .ent)
 

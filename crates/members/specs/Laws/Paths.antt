@@ -10,7 +10,7 @@ use native.Mathlib.Omega.{arith}
 use lib.Dec.{T, lit≤}
 use lib.ListN.{getD}
 use lib.Seq.{getD-set-same}
-use lib.Ieee.{Float, nan, binary64, add, lt}
+use lib.Ieee.{Float, nan, lt}
 use lib.Ieee.Scale.{finite}
 use Rattle.laws.specs.Lists.{tab, tab-at, tab-length}
 use Rattle.laws.specs.Tests.{is-true, true-is, split3}
@@ -27,7 +27,7 @@ use Rattle.search.specs.Join.{Sides, noEntry, entAt, midAt, lastAt, costAt, way
 use Rattle.search.specs.Parity.{Targets, Seed, closed, starts, solved1, solved2, solved3, seeded, lower, lowered}
 use Rattle.search.specs.Parity.{seedBy, seedTo, seedOf, boundsTo, closing, lastSides, parity}
 use Rattle.nearest.specs.Laws.Forms.{RuleOk}
-use Rattle.nearest.specs.Laws.Under.{Num, Plain, Under, inf-lt, add-inf-l, add-inf-r}
+use Rattle.nearest.specs.Laws.Under.{Num, Plain, Under, clash, inf-lt, sum3, either-num, sum3-case}
 use Rattle.nearest.specs.Laws.Entries.{EndByte, closed-keeps, set-either}
 use Rattle.nearest.specs.Laws.Pass.{MidByte, Each, Kept, half, small, bit, seeds-have, closing-has}
 use Rattle.nearest.specs.Laws.Winner.{mid-at-lt, last-at-lt}
@@ -47,13 +47,6 @@ Last Byte p r b e = (e .value ≡ infinity) ⊎ Held Byte p r b e
 plain : {B : ℕ} {x : Float} → Below B x → Plain x
 plain a = record { fit = a .fit; fin = a .fin }
 
-val-num : {x : Float} → Val x → Num x
-val-num (inl e) = inl e
-val-num (inr a) = inr (plain a)
-
-abbrev sum3 : Float → Float → Float → Float
-sum3 x y z = add binary64 (add binary64 x y) z
-
 abbrev Far3 : ℕ
 Far3 = Far + Far + Err + Far + Err
 
@@ -61,20 +54,10 @@ sum-below : {x y z : Float} → Below Far x → Below Far y → Below Far z → 
 sum-below a b c = add-below (add-below a b (lit≤ tt)) c (lit≤ tt)
 
 sum-case : (x y z : Float) → Val x → Val y → Val z → (sum3 x y z ≡ infinity) ⊎ (Below Far x × Below Far y × Below Far z)
-sum-case x y z (inl e) b c =
-    inl (ap (λ (v : Float). sum3 v y z) e ∙ ap (λ (v : Float). add binary64 v z) (add-inf-l y (val-num b)) ∙ add-inf-l z (val-num c))
-sum-case x y z (inr a) (inl e) c =
-    inl (ap (λ (v : Float). sum3 x v z) e ∙ ap (λ (v : Float). add binary64 v z) (add-inf-r x (plain a)) ∙ add-inf-l z (val-num c))
-sum-case x y z (inr a) (inr b) (inl e) =
-    inl (ap (λ (v : Float). sum3 x y v) e ∙ add-inf-r (add binary64 x y) (plain (add-below a b (lit≤ tt))))
-sum-case x y z (inr a) (inr b) (inr c) = inr (a, b, c)
+sum-case x y z = sum3-case x y z plain plain plain (λ a b. plain (add-below a b (lit≤ tt)))
 
 sum-num : (x y z : Float) → Val x → Val y → Val z → Num (sum3 x y z)
-sum-num x y z a b c = go (sum-case x y z a b c)
-  where
-    go : (sum3 x y z ≡ infinity) ⊎ (Below Far x × Below Far y × Below Far z) → Num (sum3 x y z)
-    go (inl e) = inl e
-    go (inr q) = inr (plain (sum-below (q .0) (q .1) (q .2)))
+sum-num x y z a b c = either-num (λ q. plain (sum-below (q .0) (q .1) (q .2))) (sum-case x y z a b c)
 
 below-under : {A : ℕ} {x : Float} (B : ℕ) → A * U ≤ B → Below A x → Under x B
 below-under {A} {x} B h a = record {
@@ -90,9 +73,6 @@ below-under {A} {x} B h a = record {
 
     go : (p n B : ℕ) → p ≤ B → p ≤ B + n
     go p n B h = omega arith
-
-no-way : false ≡ true → ⊥
-no-way q = subst T (sym q) tt
 
 last-val : {Byte : ℕ → Type 0} {p r : ℕ} {b : Closed} {e : Entry} → Last Byte p r b e → Val (e .value)
 last-val (inl q) = inl q
@@ -146,7 +126,7 @@ module _ (p : ℕ) (s : Sides) (L : AllLast p s) where
           ⊎ (Below Far (entAt (s .e1) i .value) × Below Far (entAt (s .e2) (midAt tables i n) .value)
           × Below Far (entAt (s .e3) (lastAt tables p i n) .value))
           → Through p (entAt (s .e1) i) (entAt (s .e2) (midAt tables i n)) (entAt (s .e3) (lastAt tables p i n))
-      go (inl e) = absurd (no-way (sym (ap finite e) ∙ f))
+      go (inl e) = absurd (clash f (ap finite e))
       go (inr q) = record {
         i = i;
         n = n;
@@ -165,7 +145,7 @@ module _ (p : ℕ) (s : Sides) (L : AllLast p s) where
       go : Seen tables p s (joinTo tables p s 128)
           → Through p (entAt (s .e1) (joinTo tables p s 128 .i1)) (entAt (s .e2) (joinTo tables p s 128 .i2))
           (entAt (s .e3) (joinTo tables p s 128 .i3))
-      go (inl e) = absurd (no-way (sym (ap finite e) ∙ f))
+      go (inl e) = absurd (clash f (ap finite e))
       go (inr q) = subst (λ (w : Way). Through p (entAt (s .e1) (w .i1)) (entAt (s .e2) (w .i2)) (entAt (s .e3) (w .i3))) (sym (q .4))
           (way-through (q .0) (q .1) (q .2) (q .3) (sym (ap (λ (w : Way). finite (w .cost)) (q .4)) ∙ f))
 
@@ -194,7 +174,7 @@ closed-below e under new a b k = go (e .exact) refl k
     go : (m : Bool) → e .exact ≡ m → (e .exact ≡ true) ⊎ (under ≡ true)
         → Below Far ((cond m e (cond under new infeasible)) .value)
     go true q k = a
-    go false q (inl w) = absurd (no-way (sym q ∙ w))
+    go false q (inl w) = absurd (clash w q)
     go false q (inr w) = subst (λ (m : Bool). Below Far ((cond m new infeasible) .value)) (sym w) b
 
 -- so in a list of n entries, `new` resolved in full, that is closed by the bounds b and the cost x
@@ -313,7 +293,7 @@ module _ (u : Rule) (U0 : RuleOk u) (t : Targets) (T1 : (j : ℕ) → j < 8 → 
     where
       fresh : seedAt n .done ≡ false → SeedKnown (seedAt n) → seedAt n .u ≡ infinity
       fresh q (inl e) = e
-      fresh q (inr z) = absurd (no-way (sym q ∙ z .0))
+      fresh q (inr z) = absurd (clash (z .0) q)
 
       go : (m : Bool) → seedAt n .done ≡ m → SeedKnown (seedAt n)
           → SeedKnown (cond m (seedAt n) (seedBy tables u t p (seedAt n) (joinTo tables p (seedAt n .sides) 128)))

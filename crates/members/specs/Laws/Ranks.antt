@@ -38,14 +38,8 @@ digits-lex [] [] e s t a b h = go (ℕ-discrete a b)
     go : Dec (a ≡ b) → (a < b) ⊎ ((a ≡ b) × T (lexLe [] []))
     go (yes q) = inr (q, tt)
     go (no d) = inl (less h d)
-digits-lex [] (y ∷ w) e s t a b h = absurd (none e)
-  where
-    none : 0 ≡ suc (length w) → ⊥
-    none e = omega arith
-digits-lex (x ∷ v) [] e s t a b h = absurd (none e)
-  where
-    none : suc (length v) ≡ 0 → ⊥
-    none e = omega arith
+digits-lex [] (y ∷ w) e s t a b h = absurd (omega arith)
+digits-lex (x ∷ v) [] e s t a b h = absurd (omega arith)
 digits-lex (x ∷ v) (y ∷ w) e s t a b h =
     go (rank-first 16 x v s) (rank-first 16 y w t) (digits-lex v w (down e) (rank-rest 16 x v s) (rank-rest 16 y w t) (a * 16 + x) (b * 16 + y) h)
   where
@@ -81,10 +75,7 @@ module _ (key : ℕ) where
   holds-within C cut e s k h = go (or-cases (ltb total C) (eqb total C && leb (lexOf key) (lexNum 0 cut)) (true-is _ h))
     where
       lex : (0 < 0) ⊎ ((_≡_ {A = ℕ} 0 0) × T (lexLe (unpack 8 key) cut)) → T (lexLe (unpack 8 key) cut)
-      lex (inl l) = absurd (none l)
-        where
-          none : 0 < 0 → ⊥
-          none l = omega arith
+      lex (inl l) = absurd (omega arith)
       lex (inr q) = q .1
 
       go : T (ltb total C) ⊎ T (eqb total C && leb (lexOf key) (lexNum 0 cut)) → T (within C cut (unpack 8 key))

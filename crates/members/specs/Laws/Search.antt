@@ -1,7 +1,7 @@
 -- All parities: at an accepted target the search over any parities finds a path through three members. Assumes nothing.
 use mathlib.Core.Path.{_≡_, refl, sym, subst}
 use mathlib.Core.Bool.{Bool, true, false, not, cond, _&&_, _||_}
-use mathlib.Core.List.{List, [], _∷_, List·Memᴰ, List·Memᴰ·head, List·Memᴰ·tail}
+use mathlib.Core.List.{List, [], _∷_, List·Memᴰ, List·Memᴰ·head}
 use Prim.Native.Nat.{ℕ, _+_, _<_}
 use native.Mathlib.Omega.{arith}
 use lib.Dec.{T}
@@ -16,6 +16,7 @@ use Rattle.search.specs.Tables.{tables}
 use Rattle.search.specs.Entries.{Rule}
 use Rattle.search.specs.Parity.{Targets, parity, nobody, costOf, choose, searchOver, search}
 use Rattle.search.specs.Block.{ruleOf, coordinate, trioOf, targetsOf, pointFrom, winnerFor}
+use Rattle.nearest.specs.Laws.Parities.{choose-either, over-each}
 use Rattle.nearest.specs.Laws.Searched.{rule-ok}
 use Rattle.nearest.specs.Laws.Sections.{up8, up16, up24}
 use Rattle.members.specs.Accepted.{Accepted}
@@ -56,19 +57,10 @@ module _ (t : List Float) (A : Accepted t) where
     unfolding parity
     parity-good p h u0 f = (h, found-through u (rule-ok n) ts target1 target2 target3 p h u0 f)
 
-    choose-good : (a b : Winner) → Good a → Good b → Good (choose a b)
-    choose-good a b x y = go (b .found && (not (a .found) || lt (b .cost) (a .cost)))
-      where
-        go : (c : Bool) → Good (cond c b a)
-        go true = y
-        go false = x
-
     over-good : (ps : List ℕ) → ((q : ℕ) → List·Memᴰ q ps → q < 2) → (best : Winner) → Good best → Good (searchOver tables u ts best ps)
-    unfolding searchOver
-    over-good [] i best f = f
-    over-good (q ∷ qs) i best f =
-        over-good qs (λ r m. i r (List·Memᴰ·tail m)) (choose best (parity tables u ts q (costOf best)))
-        (choose-good best (parity tables u ts q (costOf best)) f (parity-good q (i q (List·Memᴰ·head refl)) (costOf best)))
+    over-good ps i =
+        over-each tables u ts Good ps
+        (λ q m best f. choose-either Good best (parity tables u ts q (costOf best)) f (parity-good q (i q m) (costOf best)))
 
     -- a path once found is kept
     choose-found : (a b : Winner) → a .found ≡ true → choose a b .found ≡ true
@@ -80,10 +72,7 @@ module _ (t : List Float) (A : Accepted t) where
         go false q d = x
 
     over-found : (ps : List ℕ) (best : Winner) → best .found ≡ true → searchOver tables u ts best ps .found ≡ true
-    unfolding searchOver
-    over-found [] best f = f
-    over-found (q ∷ qs) best f = over-found qs (choose best (parity tables u ts q (costOf best)))
-        (choose-found best (parity tables u ts q (costOf best)) f)
+    over-found ps = over-each tables u ts (λ w. w .found ≡ true) ps (λ q m best f. choose-found best (parity tables u ts q (costOf best)) f)
 
     choose-first : (b : Winner) → b .found ≡ true → choose nobody b .found ≡ true
     choose-first b f = subst (λ (c : Bool). (cond (c && true) b nobody) .found ≡ true) (sym f) f
@@ -91,10 +80,7 @@ module _ (t : List Float) (A : Accepted t) where
     -- ---- any parities, at least one of them
     pub finds : (ps : List ℕ) → 0 < length ps → ((q : ℕ) → List·Memᴰ q ps → q < 2) → winnerFor ps n t .found ≡ true
     unfolding search searchOver
-    finds [] l i = absurd (none l)
-      where
-        none : 0 < 0 → ⊥
-        none l = omega arith
+    finds [] l i = absurd (omega arith)
     finds (q ∷ qs) l i =
         over-found qs (choose nobody (parity tables u ts q infinity))
         (choose-first (parity tables u ts q infinity) (first-found u (rule-ok n) ts target1 target2 target3 q (i q (List·Memᴰ·head refl))))

@@ -5,7 +5,6 @@ use mathlib.Core.Bool.{Bool, true, false, cond, _&&_}
 use mathlib.Core.List.{List, [], _∷_}
 use Prim.Native.Nat.{ℕ, zero, suc, _^_, _≤_, _<_}
 use native.Mathlib.Omega.{arith}
-use lib.Dec.{T}
 use lib.ListN.{getD, set}
 use lib.Ieee.{Float, lt}
 use Rattle.float.specs.Value.{U}
@@ -21,7 +20,7 @@ use Rattle.search.specs.Solve.{infinity, solve}
 use Rattle.search.specs.Base.{baseBest, baseNow}
 use Rattle.search.specs.Record.{row}
 use Rattle.nearest.specs.Laws.Lattice.{Sec, dist8}
-use Rattle.nearest.specs.Laws.Under.{Num, Under, near-num, under-lt, under-not-lt}
+use Rattle.nearest.specs.Laws.Under.{Num, Under, clash, under-lt, under-not-lt}
 
 -- the error of a section's value, and the room for it
 abbrev pub ES : ℕ
@@ -53,13 +52,6 @@ Sound P p r ts e = e .exact ≡ true → Final P p r ts e
 pub record Mine (e : Entry) (B : ℕ) : Type 0 where
   pub exact : e .exact ≡ true
   pub under : Under (e .value) B
-
-pub final-num : {P : ℕ → Type 0} {p r : ℕ} {ts : List Float} (e : Entry) → Final P p r ts e → Num (e .value)
-final-num e (inl q) = inl q
-final-num e (inr a) = near-num (a .stands .near)
-
-no-way : false ≡ true → ⊥
-no-way q = subst T (sym q) tt
 
 -- ---- what the old entry and the one put in its place both have, the answer has
 -- the entry of a member that was met
@@ -106,7 +98,7 @@ module _ (P : ℕ → Type 0) (p r : ℕ) (ts : List Float) where
   settle-sound s f = go ((s .loose) && (lt (s .lb) (s .ent .value)))
     where
       go : (m : Bool) → Sound P p r ts (cond m (record { value = s .lb; exact = false; byte = s .ent .byte; key = s .ent .key }) (s .ent))
-      go true q = absurd (no-way q)
+      go true q = absurd (clash q refl)
       go false q = f
 
   pub closed-final : (e : Entry) (b : Bool) (new : Entry) → Sound P p r ts e → Final P p r ts new → Final P p r ts (closed e b new)
@@ -209,7 +201,7 @@ open-base s b c {B} o n k = go (b .met) k
         at false = o .lb-num
 
         hi : (l : Bool) → Under (cond l (b .d) (s .lb)) B → ⊥
-        hi true u = no-way (k u)
+        hi true u = clash (k u) refl
         hi false u = o .high u
 
 cheap-old : (s : Start) (b : Best) (c : ℕ) {B : ℕ} → Under (s .ent .value) B → Num (b .d) → Under (withBase s b c .ent .value) B
@@ -259,10 +251,7 @@ module _ (g : Tables) (ts : List Float) (kind p r st : ℕ) (B : ℕ) (f : Num (
   cheap zero h u = cheap-old one (baseAt g ts kind p r st 1) (endByte g kind st 1)
       (cheap-new (startAt g ts kind p r st) (baseAt g ts kind p r st 0) (endByte g kind st 0) f (k 0 h u) u) (n 1 (omega arith))
   cheap (suc zero) h u = cheap-new one (baseAt g ts kind p r st 1) (endByte g kind st 1) (o1 .num) (k 1 h u) u
-  cheap (suc (suc b)) h u = absurd (none h)
-    where
-      none : suc (suc b) < 2 → ⊥
-      none h = omega arith
+  cheap (suc (suc b)) h u = absurd (omega arith)
 
   -- y's entry at an end starts exact and cheap
   pub start-mine : (b : ℕ) → b < 2 → Under (baseAt g ts kind p r st b .d) B → Mine (endStart g ts kind p r st) B
@@ -330,5 +319,5 @@ fixed-mine e i new j {B} m = go (entAt e i .exact) refl
       where
         at : ((i ≡ j) × (getD (set e i new) j noEntry ≡ new)) ⊎ (getD (set e i new) j noEntry ≡ getD e j noEntry)
             → Mine (getD (set e i new) j noEntry) B
-        at (inl k) = absurd (no-way (sym q ∙ ap (λ (x : ℕ). entAt e x .exact) (k .0) ∙ m .exact))
+        at (inl k) = absurd (clash (ap (λ (x : ℕ). entAt e x .exact) (k .0) ∙ m .exact) q)
         at (inr k) = subst (λ (x : Entry). Mine x B) (sym k) m

@@ -178,10 +178,7 @@ marked y = go (ltb (rankOf y) reach) (ltb→lt (rankOf y) reach)
   where
     go : (t : Bool) → (T t → rankOf y < reach) → cond t (rankOf y) noRank ≤ 4 → (cond t (rankOf y) noRank ≡ rankOf y) × (rankOf y < 8)
     go true a l = (refl, a tt)
-    go false a l = absurd (none l)
-      where
-        none : 15 ≤ 4 → ⊥
-        none l = omega arith
+    go false a l = absurd (omega arith)
 
 -- a rank that a bound admits gives its member back
 pub rank-back : (o : ℕ) (k : ℤ) → o < 4 → markK o k ≤ 4 → valOf o (markK o k) ≡ member o k

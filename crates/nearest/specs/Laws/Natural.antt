@@ -36,10 +36,7 @@ sqc v x = coordGap v x * coordGap v x
 pub dist-sum : (z : List ℤ) (t : List Float) → length z ≡ length t → sqDist z t ≡ sumTo (λ j. sqc (at24 z j) (getD t j nan)) (length z)
 unfolding sqDist sumTo
 dist-sum [] t e = refl
-dist-sum (v ∷ z) [] e = absurd (none e)
-  where
-    none : suc (length z) ≡ 0 → ⊥
-    none e = omega arith
+dist-sum (v ∷ z) [] e = absurd (omega arith)
 dist-sum (v ∷ z) (x ∷ t) e =
     ap (λ (n : ℕ). sqc v x + n) (dist-sum z t (down e)) ∙ sum-front (λ j. sqc (at24 (v ∷ z) j) (getD (x ∷ t) j nan)) (length z)
   where

@@ -1,4 +1,5 @@
--- One parity's pass: at the last join every entry is infinite or stands for a section, and y's three entries are exact and cheap.
+-- One parity's pass: what holds of every entry as it starts and as it is resolved holds at the last join. So there every entry is infinite or
+-- stands for a section, and y's three entries are exact and cheap.
 use mathlib.Core.Path.{_≡_, sym, subst}
 use mathlib.Core.Bool.{Bool, true, false, cond}
 use mathlib.Core.List.{List}

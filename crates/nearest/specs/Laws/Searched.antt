@@ -31,10 +31,7 @@ both-lt q (List·Memᴰ·tail (List·Memᴰ·tail m)) = absurd (List·Memᴰ·no
 pub in-both : (q : ℕ) → q < 2 → List·Memᴰ q bothParities
 in-both zero h = List·Memᴰ·head refl
 in-both (suc zero) h = List·Memᴰ·tail (List·Memᴰ·head refl)
-in-both (suc (suc q)) h = absurd (none h)
-  where
-    none : suc (suc q) < 2 → ⊥
-    none h = omega arith
+in-both (suc (suc q)) h = absurd (omega arith)
 
 -- ---- the even profile searches parity 0
 pub only-zero : (q : ℕ) → List·Memᴰ q (0 ∷ []) → q ≡ 0
