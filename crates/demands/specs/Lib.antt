@@ -1,6 +1,7 @@
--- demand 2 for samples, the two scales, demand 3: over the public calls
+-- what is promised of a code; demand 2 for samples, the two scales, demand 3: over the public calls
+pub mod Promised
 pub mod Codes
 pub mod Scales
 pub mod Nearest
--- what number 0 says of a call
+-- their proof
 pub mod Laws

@@ -14,13 +14,9 @@ use Rattle.score.specs.declared.Choice.{Choice}
 use Rattle.score.specs.declared.Choice.the-variants.{Zero, Scale}
 use Rattle.score.specs.Laws.Sample.{AllFit}
 use Rattle.score.specs.Laws.Quotient.{KeepsBoth, choice-keeps}
-use Rattle.encoder.specs.Encode.{numberAt, encodeAtOver, higher, twoScales, codeAt, numberOf, encodeOver}
+use Rattle.encoder.specs.Encode.{numberAt, encodeAtOver, higher, twoScales, codeAt, numberOf}
 use Rattle.encoder.specs.Numbers.{zero-says, at-accepted, is-accepted}
-
-pub record TwoCalls (ps : List ℕ) (x : List Float) (s : Float) (n : ℕ) : Type 0 where
-  pub first : numberAt x s n ≡ 0
-  pub second : numberAt x (secondScale s) n ≡ 0
-  pub code : encodeOver ps x n ≡ higher (encodeAtOver ps x s n) (encodeAtOver ps x (secondScale s) n)
+use Rattle.demands.specs.Promised.{TwoCalls}
 
 pub two-calls : (ps : List ℕ) (x : List Float) (s : Float) (n : ℕ) → length x ≡ 24 → AllFit x → numberOf x n ≡ 0 → choiceOf x ≡ Scale s
     → TwoCalls ps x s n

@@ -9,7 +9,7 @@ use lib.IntN.{ℤ, pos, negsuc}
 use lib.Signed.{_<ℤ_}
 use Rattle.laws.specs.Lists.{tab}
 use Rattle.rows.specs.Rows.{rows}
-use Rattle.search.specs.Tables.{tables, endByte}
+use Rattle.search.specs.Tables.{tables, endByte, fallbackAt}
 use Rattle.search.specs.Entries.{sectionAt}
 
 -- ---- the order of points
@@ -50,3 +50,10 @@ point p c key = tab (sectionAt p c key) 8
 pub record LeastOf (kind p r st c key : ℕ) : Type 0 where
   pub member : InRegion kind r st c key
   pub least : (d k : ℕ) → InRegion kind r st d k → NotAfter (point p c key) (point p d k)
+
+-- ---- the table's entry for a region, a byte and a packed row
+abbrev pub byteOf : ℕ → ℕ → ℕ → ℕ → ℕ
+byteOf kind p r st = getD (tables .fbByte) (fallbackAt kind p r st) 0
+
+abbrev pub keyOf : ℕ → ℕ → ℕ → ℕ → ℕ
+keyOf kind p r st = getD (tables .fbKey) (fallbackAt kind p r st) 0

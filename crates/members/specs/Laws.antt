@@ -10,3 +10,5 @@ pub mod Paths
 -- ranks as lists, the point
 pub mod Ranks
 pub mod Point
+-- all parities
+pub mod Search

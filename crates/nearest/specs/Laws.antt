@@ -1,10 +1,11 @@
--- the forms that the proof works with, and that they are what document 01 has
+-- the forms that the proof works with
 pub mod Forms
-pub mod Packed
-pub mod Link
--- sums and signed numbers; one coordinate; the base of a pattern; doubles
+-- sums and signed numbers; packed rows; the shape of a candidate
 pub mod Sums
 pub mod Ints
+pub mod Keys
+pub mod Shape
+-- doubles: one coordinate, the base of a pattern, values and their sums
 pub mod Coordinate
 pub mod Base
 pub mod Under
@@ -16,18 +17,22 @@ pub mod Entries
 pub mod Pass
 pub mod Winner
 pub mod Parities
--- packed rows, candidates, the section search
-pub mod Keys
-pub mod Shape
+-- the candidates, the section search
 pub mod Rule
 pub mod Candidate
 pub mod Steps
 pub mod Pairs
 pub mod Bases
 pub mod Solve
--- all of it put together, in trio order, at the constant tables
-pub mod Reach
+-- all of it put together, by sections and in trio order
 pub mod Premises
+pub mod Reach
 pub mod Sections
+-- that the forms are what document 01 and the constant tables have
+pub mod Packed
 pub mod TableFacts
+pub mod Link
+-- what is searched; the theorem in natural order; a point as its own target
+pub mod Searched
 pub mod Natural
+pub mod OnPoint

@@ -133,9 +133,6 @@ grade-is (v ∷ y) = go (square v) (norm y) (digit v * 64 ^ length y) (digits y)
 pub grade-order : (y z : List ℤ) → length y ≡ 8 → length z ≡ 8 → T (allFit y) → T (allFit z) → grade y ≤ grade z → NotAfter y z
 grade-order y z a b s t h = go (trichotomy (norm y) (norm z))
   where
-    low : digits y < 64 ^ 8
-    low = subst (λ (n : ℕ). digits y < 64 ^ n) a (digits-lt y s)
-
     top : digits z < 64 ^ 8
     top = subst (λ (n : ℕ). digits z < 64 ^ n) b (digits-lt z t)
 

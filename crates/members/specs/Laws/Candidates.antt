@@ -2,13 +2,12 @@
 use mathlib.Core.Path.{_≡_, refl, sym, ap, _∙_, subst}
 use mathlib.Core.Bool.{Bool, true, false, cond}
 use mathlib.Core.List.{List}
-use Prim.Native.Nat.{ℕ, suc, _+_, _*_, _^_, _≤_, _<_}
-use native.Mathlib.Nat.{le-refl, le-of-lt, lt-of-le-of-lt, suc-mul, add-le-add, mul-le-mul-right}
-use native.Mathlib.Omega.{arith}
+use Prim.Native.Nat.{ℕ, _+_, _*_, _^_, _≤_, _<_}
+use native.Mathlib.Nat.{le-refl}
 use lib.Dec.{eqb, lit≤}
 use lib.ListN.{getD}
 use lib.IntN.{ℤ, pos, natAbs}
-use lib.Ieee.{Float, nan, binary64, add, sub, mul, ofInt}
+use lib.Ieee.{Float, nan, binary64, sub, mul, ofInt}
 use lib.Ieee.Fits.{div-fits}
 use Rattle.rank.specs.Vector.{sq}
 use Rattle.float.specs.Value.{four64}
@@ -23,25 +22,22 @@ use Rattle.search.specs.Entries.{rankAt, sectionAt}
 use Rattle.nearest.specs.Laws.Forms.{sumTo, parK}
 use Rattle.nearest.specs.Laws.Sums.{sum-same}
 use Rattle.nearest.specs.Laws.Keys.{markK}
+use Rattle.nearest.specs.Laws.Lattice.{Sec}
 use Rattle.nearest.specs.Laws.Base.{worst-lt}
 use Rattle.nearest.specs.Laws.Shape.{oAt, o-lt, Shape, shape-at, row-at, row-slots, row-d, slot-lt, now-shape, now-dist}
 use Rattle.nearest.specs.Laws.Rule.{kBase, kPair, moved-shape, stepped-shape, Gives, solve-holds, slot-class, mid-lt, toward-mid}
-use Rattle.members.specs.Laws.Sizes.{Below, wider, Room, Err, Term, Target, add-below, sub-below, term-below, dist-below, member-far, slot-far}
+use Rattle.members.specs.Laws.Sizes.{Below, wider, Err, Term, Target, term-below, plus, less, dist-below, member-far, slot-far}
 
 -- ---- the packed row `key` is a member of parity p, byte c, class r and bound b
 pub record Member (p c r : ℕ) (b : Closed) (key : ℕ) : Type 0 where
-  pub k : ℕ → ℤ
-  pub at : (j : ℕ) → j < 8 → sectionAt p c key j ≡ member (oAt p c j) (k j)
-  pub class : parK k 8 ≡ r
+  pub sec : Sec p c r (sectionAt p c key)
   pub key-lt : key < 2 ^ 32
   pub within : holds b (sumTo (λ j. sq (rankAt key j)) 8) key ≡ true
 
 pub shape-member : (p c r : ℕ) → p < 2 → (b : Closed) → b .cost ≤ 96 → (k : ℕ → ℤ) (cost key : ℕ) → Shape p c k cost key → parK k 8 ≡ r
     → holds b cost key ≡ true → Member p c r b key
 shape-member p c r P0 b B0 k cost key C q h = record {
-  k = k;
-  at = shape-at p c P0 b B0 k cost key C h;
-  class = q;
+  sec = record { k = k; at = shape-at p c P0 b B0 k cost key C h; class = q };
   key-lt = C .key-lt;
   within = subst (λ (z : ℕ). holds b z key ≡ true)
       (C .cost-is ∙ sum-same (λ j. sq (markK (oAt p c j) (k j))) (λ j. sq (rankAt key j)) 8 (λ j l. ap sq (sym (C .key-is j l)))) h;
@@ -64,22 +60,6 @@ coord-far t z o = rounded-le (onLattice t z o) (div-fits binary64 (sub binary64 
 pub k-far : (ts : List Float) (p c s j : ℕ) → j < 8 → natAbs (coordAt (row ts p c s) j .k0) ≤ 1000000
 k-far ts p c s j h = subst (λ (x : Coord). natAbs (x .k0) ≤ 1000000) (sym (row-at ts p c s j h))
     (coord-far (getD ts j nan) (getD shrinks s nan) (oAt p c j))
-
--- ---- one more term, added or taken away
-one-more : (n : ℕ) → n * Term + (2 ^ 1122 + Err) + Err ≤ suc n * Term
-one-more n = more n Term (2 ^ 1122 + Err) Err (lit≤ tt)
-  where
-    more : (n t a e : ℕ) → a + e ≤ t → n * t + a + e ≤ suc n * t
-    more n t a e h = let x = suc-mul n t in omega arith
-
-one-room : (n : ℕ) → n < 12 → n * Term + (2 ^ 1122 + Err) < Room
-one-room n h = lt-of-le-of-lt (add-le-add (mul-le-mul-right Term (le-of-lt h)) (le-refl (2 ^ 1122 + Err))) (lit≤ tt)
-
-plus : (n : ℕ) → n < 12 → (x y : Float) → Below (n * Term) x → Below (2 ^ 1122 + Err) y → Below (suc n * Term) (add binary64 x y)
-plus n h x y a b = wider (suc n * Term) (one-more n) (add-below a b (one-room n h))
-
-less : (n : ℕ) → n < 12 → (x y : Float) → Below (n * Term) x → Below (2 ^ 1122 + Err) y → Below (suc n * Term) (sub binary64 x y)
-less n h x y a b = wider (suc n * Term) (one-more n) (sub-below a b (one-room n h))
 
 module _ (ts : List Float) (p c s : ℕ) (P0 : p < 2) (T0 : (j : ℕ) → j < 8 → Target (getD ts j nan)) where
   abbrev e : List Coord

@@ -1,31 +1,35 @@
 -- The entries of the join: before the last join every one has a finite value, and an exact one holds a member.
-use mathlib.Core.Path.{_≡_, refl, sym, _∙_, subst}
+use mathlib.Core.Path.{_≡_, refl, sym, subst}
 use mathlib.Core.Logic.{_⊎_, inl, inr}
 use mathlib.Core.Bool.{Bool, true, false, cond, _&&_}
 use mathlib.Core.List.{List}
 use Prim.Native.Nat.{ℕ, _^_, _≤_, _<_}
 use native.Mathlib.Nat.{le-refl, lt-of-lt-of-le}
-use lib.Dec.{T, ltb, ltb→lt, lit≤}
+use lib.Dec.{lit≤}
 use lib.ListN.{getD}
 use lib.Ieee.{Float, nan, lt}
-use Rattle.laws.specs.Tests.{upto, below, and-left, and-right, is-true}
-use Rattle.rank.specs.Vector.{sq}
+use Rattle.rank.specs.Vector.{sq, unpack, boundCost, boundCut}
+use Rattle.rank.specs.Laws.Vector.{unpack-below}
 use Rattle.search.specs.declared.Entry.{Entry}
 use Rattle.search.specs.declared.Best.{Best}
 use Rattle.search.specs.declared.Closed.{Closed}
 use Rattle.search.specs.Record.{row}
-use Rattle.search.specs.Bound.{holds, lexOf, lexNum}
+use Rattle.search.specs.Bound.{holds}
 use Rattle.search.specs.Base.{baseNow, baseBest}
 use Rattle.search.specs.Solve.{infinity, solve}
-use Rattle.search.specs.Tables.{tables, classOf, endByte, fallbackAt, fallbackKeys}
-use Rattle.search.specs.Entries.{Rule, Start, rankAt, sectionAt, fallback, better, endResolve, midOf, midResolve, withBase, settle, endStart, midStart}
+use Rattle.search.specs.Tables.{tables, classOf, endByte}
+use Rattle.search.specs.Entries.{Rule, Start, rankAt, sectionAt, infeasible, fallback, better, endResolve, midOf, midResolve}
+use Rattle.search.specs.Entries.{withBase, settle, endStart, midStart}
+use Rattle.fallbacks.specs.Region.{byteOf, keyOf}
+use Rattle.fallbacks.specs.Laws.Member.{member-packed, member-in}
 use Rattle.nearest.specs.Laws.Forms.{sumTo, RuleOk}
 use Rattle.nearest.specs.Laws.Keys.{kAt, val-is, nib-lt}
-use Rattle.nearest.specs.Laws.Under.{lt-inf}
+use Rattle.nearest.specs.Laws.Under.{clash, lt-inf}
 use Rattle.nearest.specs.Laws.Shape.{oAt, o-lt}
-use Rattle.nearest.specs.Laws.Entries.{EndByte}
+use Rattle.nearest.specs.Laws.Packed.{packed-lt, packed-holds, class-bound, cut-size, cut-below}
+use Rattle.nearest.specs.Laws.Entries.{EndByte, entryOf, better-keeps}
 use Rattle.nearest.specs.Laws.Premises.{val-small, class-cost}
-use Rattle.nearest.specs.Laws.TableFacts.{tables-more}
+use Rattle.nearest.specs.Laws.TableFacts.{entry-in, tables-more}
 use Rattle.members.specs.Laws.Sizes.{Below, wider, Target, dist-below}
 use Rattle.members.specs.Laws.Candidates.{Good, Far, base-below, base-member, solve-good}
 use Rattle.members.specs.Laws.Middle.{always-met}
@@ -50,13 +54,7 @@ Sure p c r b x = x .met ≡ true → Good p c r b (x .key) (x .d)
 
 module _ (Byte : ℕ → Type 0) (p r : ℕ) (b : Closed) where
   better-held : (e : Entry) (x : Best) (c : ℕ) → Byte c → Held Byte p r b e → Sure p c r b x → Held Byte p r b (better e x c)
-  better-held e x c h f s = go (x .met) (lt (x .d) (e .value)) s
-    where
-      go : (m l : Bool) → (m ≡ true → Good p c r b (x .key) (x .d))
-          → Held Byte p r b (cond (m && l) (record { value = x .d; exact = true; byte = c; key = x .key }) e)
-      go true true s = record { exact = refl; byte = h; good = s refl }
-      go true false s = f
-      go false l s = f
+  better-held e x c h f s = better-keeps (Held Byte p r b) e x c f (λ q. record { exact = refl; byte = h; good = s q })
 
   -- an end entry in the making
   pub record Begun (s : Start) : Type 0 where
@@ -78,59 +76,45 @@ module _ (Byte : ℕ → Type 0) (p r : ℕ) (b : Closed) where
   settle-fine : (s : Start) → Begun s → Fine Byte p r b (settle s)
   settle-fine s f = go (s .loose) (lt (s .lb) (s .ent .value)) refl
     where
-      no-way : false ≡ true → ⊥
-      no-way q = subst T (sym q) tt
-
       bound : (s .lb ≡ infinity) ⊎ Below Far (s .lb) → lt (s .lb) (s .ent .value) ≡ true → Below Far (s .lb)
-      bound (inl e) q = absurd (no-way
-          (sym (lt-inf (s .ent .value) (f .ent .good .below .fin)) ∙ subst (λ (z : Float). lt z (s .ent .value) ≡ true) e q))
+      bound (inl e) q =
+          absurd (clash (subst (λ (z : Float). lt z (s .ent .value) ≡ true) e q) (lt-inf (s .ent .value) (f .ent .good .below .fin)))
       bound (inr d) q = d
 
       go : (m l : Bool) → lt (s .lb) (s .ent .value) ≡ l
           → Fine Byte p r b (cond (m && l) (record { value = s .lb; exact = false; byte = s .ent .byte; key = s .ent .key }) (s .ent))
-      go true true q = record { below = bound (f .lb) q; held = λ w. absurd (no-way w) }
+      go true true q = record { below = bound (f .lb) q; held = λ w. absurd (clash w refl) }
       go true false q = held-fine (f .ent)
       go false l q = held-fine (f .ent)
 
--- ---- fallbacks: a row of the bound of its class
-abbrev keyOf : ℕ → ℕ → ℕ → ℕ → ℕ
-keyOf kind p r st = getD fallbackKeys (fallbackAt kind p r st) 0
-
-inBound : ℕ → ℕ → Bool
-inBound r key = ltb key (2 ^ 32) && holds (classOf tables r) (sumTo (λ j. sq (rankAt key j)) 8) key
-
-all-in : T (upto 2 (λ kind. upto 2 (λ p. upto 2 (λ r. upto 64 (λ st. inBound r (keyOf kind p r st))))))
-unfolding inBound fallbackKeys sumTo lexOf lexNum
-all-in = tt
-
-in-at : (kind p r st : ℕ) → kind < 2 → p < 2 → r < 2 → st < 64 → T (inBound r (keyOf kind p r st))
-in-at kind p r st a b c d =
-    below 64 (λ st. inBound r (keyOf kind p r st))
-    (below 2 (λ r. upto 64 (λ st. inBound r (keyOf kind p r st)))
-    (below 2 (λ p. upto 2 (λ r. upto 64 (λ st. inBound r (keyOf kind p r st))))
-    (below 2 (λ kind. upto 2 (λ p. upto 2 (λ r. upto 64 (λ st. inBound r (keyOf kind p r st))))) all-in kind a) p b) r c) st d
-
+-- ---- fallbacks: each is a row of its class, so within the bound
 abbrev Targets8 : List Float → Type 0
 Targets8 ts = (j : ℕ) → j < 8 → Target (getD ts j nan)
 
 fallback-held : (ts : List Float) → Targets8 ts → (kind p r st : ℕ) → kind < 2 → p < 2 → r < 2 → st < 64
     → Held (EndByte tables kind st) p r (classOf tables r) (fallback tables ts kind p r st)
-unfolding inBound
 fallback-held ts T0 kind p r st K0 P0 R0 S0 =
-    let c = getD (tables .fbByte) (fallbackAt kind p r st) 0 in
+    let c = byteOf kind p r st in
     let key = keyOf kind p r st in
-    let q = in-at kind p r st K0 P0 R0 S0 in
+    let v = unpack 8 key in
+    let m = entry-in kind p r st K0 P0 R0 S0 in
+    let e = member-packed kind r st c key R0 m in
+    let low = unpack-below 8 key in
     record {
       exact = refl;
       byte = tables-more .fb-byte kind p r st K0 P0 R0 S0;
       good = record {
         is = record {
-          k = λ j. kAt (oAt p c j) (rankAt key j);
-          at = λ j h. val-is (oAt p c j) (rankAt key j) (o-lt p c j P0) (tables-more .fb-rank kind p r st j K0 P0 R0 S0 h);
-          class = tables-more .fb-class kind p r st K0 P0 R0 S0;
-          key-lt = ltb→lt key (2 ^ 32) (and-left (ltb key (2 ^ 32)) (holds (classOf tables r) (sumTo (λ j. sq (rankAt key j)) 8) key) q);
-          within = is-true (holds (classOf tables r) (sumTo (λ j. sq (rankAt key j)) 8) key)
-              (and-right (ltb key (2 ^ 32)) (holds (classOf tables r) (sumTo (λ j. sq (rankAt key j)) 8) key) q);
+          sec = record {
+            k = λ j. kAt (oAt p c j) (rankAt key j);
+            at = λ j h. val-is (oAt p c j) (rankAt key j) (o-lt p c j P0) (tables-more .fb-rank kind p r st j K0 P0 R0 S0 h);
+            class = tables-more .fb-class kind p r st K0 P0 R0 S0;
+          };
+          key-lt = subst (λ (n : ℕ). n < 2 ^ 32) (sym e) (packed-lt v refl low);
+          within =
+              subst (λ (n : ℕ). holds (classOf tables r) (sumTo (λ j. sq (rankAt n j)) 8) n ≡ true) (sym e)
+              (packed-holds v refl low (classOf tables r) (boundCost r) (boundCut r) (class-bound r R0) (cut-size r) (cut-below r)
+              (member-in kind r st c key R0 m));
         };
         below = wider Far (lit≤ tt) (dist-below (sectionAt p c key) ts
             (λ j h. lt-of-lt-of-le (val-small (oAt p c j) (rankAt key j) (o-lt p c j P0) (nib-lt key j)) (lit≤ tt)) T0 8 (le-refl 8));
@@ -189,8 +173,7 @@ module _ (u : Rule) (U0 : RuleOk u) (ts : List Float) (T0 : (j : ℕ) → j < 8 
 
     mid-of : (x : Best) → Sure p c d m x → x .met ≡ true → Held Own p d m (midOf x c)
     mid-of x s q = subst (λ (t : Bool).
-        Held Own p d m (cond t (record { value = x .d; exact = true; byte = c; key = x .key })
-        (record { value = infinity; exact = true; byte = 0; key = 0 }))) (sym q)
+        Held Own p d m (cond t (entryOf x c) infeasible)) (sym q)
         (record { exact = refl; byte = refl; good = s q })
 
     pub mid-held : Held Own p d m (midResolve tables u ts p c d)

@@ -3,7 +3,6 @@ use mathlib.Core.Path.{_≡_, refl, sym, subst}
 use mathlib.Core.Bool.{Bool, true, false, cond, _&&_}
 use mathlib.Core.List.{List}
 use Prim.Native.Nat.{ℕ, zero, suc, _-_, _<_}
-use lib.Dec.{T}
 use lib.ListN.{getD}
 use lib.Ieee.{Float, nan, lt, le}
 use Rattle.search.specs.declared.Coord.{Coord}
@@ -16,14 +15,11 @@ use Rattle.search.specs.Bound.{holds}
 use Rattle.search.specs.Base.{nowTo}
 use Rattle.search.specs.Solve.{infinity, keptBase, stepOf, movedD, movedC, keyMoved, movesTo, topTo, fixOf, layersTo, firstBase, unmet, solve}
 use Rattle.search.specs.Tables.{tables}
-use Rattle.nearest.specs.Laws.Under.{inf-lt}
+use Rattle.nearest.specs.Laws.Under.{clash, inf-lt}
 use Rattle.nearest.specs.Laws.Rule.{mid-lt, fix-mid}
 use Rattle.members.specs.Laws.Sizes.{Target}
 use Rattle.members.specs.Laws.Candidates.{now-below}
 use Rattle.members.specs.Laws.Zero.{zero-held}
-
-no-way : {A : Type 0} → true ≡ false → A
-no-way q = absurd (subst T q tt)
 
 -- ---- a best that was not met is at infinity
 abbrev Inf : Best → Type 0
@@ -33,7 +29,7 @@ kept-inf : (bound : Closed) (n : Now) (best : Best) → Inf best → Inf (keptBa
 kept-inf bound n best i = go (holds bound (n .cost) (n .key) && lt (n .dist) (best .d))
   where
     go : (b : Bool) → Inf (cond b (record { d = n .dist; key = n .key; met = true }) best)
-    go true = λ q. no-way q
+    go true = λ q. absurd (clash refl q)
     go false = i
 
 -- ---- and a best that was met stays met
@@ -50,8 +46,8 @@ kept-new bound n best = go (holds bound (n .cost) (n .key)) (lt (n .dist) (best 
   where
     go : (a b : Bool) → a ≡ true → b ≡ true → (cond (a && b) (record { d = n .dist; key = n .key; met = true }) best) .met ≡ true
     go true true p q = refl
-    go true false p q = no-way (sym q)
-    go false b p q = no-way (sym p)
+    go true false p q = absurd (clash q refl)
+    go false b p q = absurd (clash p refl)
 
 -- any step keeps what its old best and every new one have
 module _ (P : Best → Type 0) (N : (d : Float) (k : ℕ) → P (record { d = d; key = k; met = true })) where
@@ -80,7 +76,7 @@ module _ (P : Best → Type 0) (N : (d : Float) (k : ℕ) → P (record { d = d;
 
 moves-inf : (e : List Coord) (top : Top) (fix : ℕ) (bound : Closed) (n : Now) (start : Best) → Inf start → (i : ℕ)
     → Inf (movesTo e top fix bound n start i)
-moves-inf = moves-keep Inf (λ d k q. no-way q)
+moves-inf = moves-keep Inf (λ d k q. absurd (clash refl q))
 
 moves-met : (e : List Coord) (top : Top) (fix : ℕ) (bound : Closed) (n : Now) (start : Best) → start .met ≡ true → (i : ℕ)
     → movesTo e top fix bound n start i .met ≡ true

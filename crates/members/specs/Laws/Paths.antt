@@ -10,7 +10,7 @@ use native.Mathlib.Omega.{arith}
 use lib.Dec.{T, lit≤}
 use lib.ListN.{getD}
 use lib.Seq.{getD-set-same}
-use lib.Ieee.{Float, nan, binary64, add, lt}
+use lib.Ieee.{Float, nan, lt}
 use lib.Ieee.Scale.{finite}
 use Rattle.laws.specs.Lists.{tab, tab-at, tab-length}
 use Rattle.laws.specs.Tests.{is-true, true-is, split3}
@@ -22,13 +22,14 @@ use Rattle.search.specs.declared.Bounds.{Bounds}
 use Rattle.search.specs.declared.Closed.{Closed}
 use Rattle.search.specs.Solve.{infinity}
 use Rattle.search.specs.Tables.{tables, classOf}
-use Rattle.search.specs.Entries.{Rule, endStart, midStart}
+use Rattle.search.specs.Entries.{Rule, infeasible, endResolve, endStart, midStart}
 use Rattle.search.specs.Join.{Sides, noEntry, entAt, midAt, lastAt, costAt, wayAt, joinTo, allExact}
-use Rattle.search.specs.Parity.{Targets, Seed, closed, starts, solved1, solved2, solved3, seeded, lower, lowered, seedBy, seedTo, seedOf, boundsTo, closing, lastSides, parity}
+use Rattle.search.specs.Parity.{Targets, Seed, closed, starts, solved1, solved2, solved3, seeded, lower, lowered}
+use Rattle.search.specs.Parity.{seedBy, seedTo, seedOf, boundsTo, closing, lastSides, parity}
 use Rattle.nearest.specs.Laws.Forms.{RuleOk}
-use Rattle.nearest.specs.Laws.Under.{Num, Plain, Under, inf-lt, add-inf-l, add-inf-r}
-use Rattle.nearest.specs.Laws.Entries.{EndByte, fixed-keeps, set-either}
-use Rattle.nearest.specs.Laws.Pass.{MidByte, half, small, bit, seeds-keep}
+use Rattle.nearest.specs.Laws.Under.{Num, Plain, Under, clash, inf-lt, sum3, either-num, sum3-case}
+use Rattle.nearest.specs.Laws.Entries.{EndByte, closed-keeps, set-either}
+use Rattle.nearest.specs.Laws.Pass.{MidByte, Each, Kept, half, small, bit, seeds-have, closing-has}
 use Rattle.nearest.specs.Laws.Winner.{mid-at-lt, last-at-lt}
 use Rattle.nearest.specs.Laws.Join.{Seen, join-seen, join-under}
 use Rattle.nearest.specs.Laws.TableFacts.{tables-good}
@@ -46,13 +47,6 @@ Last Byte p r b e = (e .value ≡ infinity) ⊎ Held Byte p r b e
 plain : {B : ℕ} {x : Float} → Below B x → Plain x
 plain a = record { fit = a .fit; fin = a .fin }
 
-val-num : {x : Float} → Val x → Num x
-val-num (inl e) = inl e
-val-num (inr a) = inr (plain a)
-
-abbrev sum3 : Float → Float → Float → Float
-sum3 x y z = add binary64 (add binary64 x y) z
-
 abbrev Far3 : ℕ
 Far3 = Far + Far + Err + Far + Err
 
@@ -60,20 +54,10 @@ sum-below : {x y z : Float} → Below Far x → Below Far y → Below Far z → 
 sum-below a b c = add-below (add-below a b (lit≤ tt)) c (lit≤ tt)
 
 sum-case : (x y z : Float) → Val x → Val y → Val z → (sum3 x y z ≡ infinity) ⊎ (Below Far x × Below Far y × Below Far z)
-sum-case x y z (inl e) b c =
-    inl (ap (λ (v : Float). sum3 v y z) e ∙ ap (λ (v : Float). add binary64 v z) (add-inf-l y (val-num b)) ∙ add-inf-l z (val-num c))
-sum-case x y z (inr a) (inl e) c =
-    inl (ap (λ (v : Float). sum3 x v z) e ∙ ap (λ (v : Float). add binary64 v z) (add-inf-r x (plain a)) ∙ add-inf-l z (val-num c))
-sum-case x y z (inr a) (inr b) (inl e) =
-    inl (ap (λ (v : Float). sum3 x y v) e ∙ add-inf-r (add binary64 x y) (plain (add-below a b (lit≤ tt))))
-sum-case x y z (inr a) (inr b) (inr c) = inr (a, b, c)
+sum-case x y z = sum3-case x y z plain plain plain (λ a b. plain (add-below a b (lit≤ tt)))
 
 sum-num : (x y z : Float) → Val x → Val y → Val z → Num (sum3 x y z)
-sum-num x y z a b c = go (sum-case x y z a b c)
-  where
-    go : (sum3 x y z ≡ infinity) ⊎ (Below Far x × Below Far y × Below Far z) → Num (sum3 x y z)
-    go (inl e) = inl e
-    go (inr q) = inr (plain (sum-below (q .0) (q .1) (q .2)))
+sum-num x y z a b c = either-num (λ q. plain (sum-below (q .0) (q .1) (q .2))) (sum-case x y z a b c)
 
 below-under : {A : ℕ} {x : Float} (B : ℕ) → A * U ≤ B → Below A x → Under x B
 below-under {A} {x} B h a = record {
@@ -90,9 +74,6 @@ below-under {A} {x} B h a = record {
     go : (p n B : ℕ) → p ≤ B → p ≤ B + n
     go p n B h = omega arith
 
-no-way : false ≡ true → ⊥
-no-way q = subst T (sym q) tt
-
 last-val : {Byte : ℕ → Type 0} {p r : ℕ} {b : Closed} {e : Entry} → Last Byte p r b e → Val (e .value)
 last-val (inl q) = inl q
 last-val (inr h) = inr (h .good .below)
@@ -102,20 +83,16 @@ last-held (inl q) a = absurd (subst (λ (x : Float). T (finite x)) q (a .fin))
 last-held (inr h) a = h
 
 -- ---- the three lists
-pub record AllFine (p : ℕ) (s : Sides) : Type 0 where
-  pub one : (i : ℕ) → i < 128 → Fine (EndByte tables 0 (i % 64)) p (i / 64) (classOf tables (i / 64)) (entAt (s .e1) i)
-  pub two : (i : ℕ) → i < 256 → Fine (MidByte tables i) p (i % 2) (tables .mixed) (entAt (s .e2) i)
-  pub three : (i : ℕ) → i < 128 → Fine (EndByte tables 1 (i % 64)) p (i / 64) (classOf tables (i / 64)) (entAt (s .e3) i)
+abbrev pub AllLast : ℕ → Sides → Type 0
+AllLast p = Each (λ i. Last (EndByte tables 0 (i % 64)) p (i / 64) (classOf tables (i / 64))) (λ i. Last (MidByte tables i) p (i % 2) (tables .mixed))
+    (λ i. Last (EndByte tables 1 (i % 64)) p (i / 64) (classOf tables (i / 64)))
 
-pub record AllLast (p : ℕ) (s : Sides) : Type 0 where
-  pub one : (i : ℕ) → i < 128 → Last (EndByte tables 0 (i % 64)) p (i / 64) (classOf tables (i / 64)) (entAt (s .e1) i)
-  pub two : (i : ℕ) → i < 256 → Last (MidByte tables i) p (i % 2) (tables .mixed) (entAt (s .e2) i)
-  pub three : (i : ℕ) → i < 128 → Last (EndByte tables 1 (i % 64)) p (i / 64) (classOf tables (i / 64)) (entAt (s .e3) i)
+abbrev AllFine : ℕ → Sides → Type 0
+AllFine p = Each (λ i. Fine (EndByte tables 0 (i % 64)) p (i / 64) (classOf tables (i / 64))) (λ i. Fine (MidByte tables i) p (i % 2) (tables .mixed))
+    (λ i. Fine (EndByte tables 1 (i % 64)) p (i / 64) (classOf tables (i / 64)))
 
-record AllVal (s : Sides) : Type 0 where
-  one : (i : ℕ) → i < 128 → Val (entAt (s .e1) i .value)
-  two : (i : ℕ) → i < 256 → Val (entAt (s .e2) i .value)
-  three : (i : ℕ) → i < 128 → Val (entAt (s .e3) i .value)
+abbrev AllVal : Sides → Type 0
+AllVal = Each (λ i e. Val (e .value)) (λ i e. Val (e .value)) (λ i e. Val (e .value))
 
 m-lt : (i n : ℕ) → n < 32 → midAt tables i n < 256
 m-lt = mid-at-lt tables tables-good
@@ -149,7 +126,7 @@ module _ (p : ℕ) (s : Sides) (L : AllLast p s) where
           ⊎ (Below Far (entAt (s .e1) i .value) × Below Far (entAt (s .e2) (midAt tables i n) .value)
           × Below Far (entAt (s .e3) (lastAt tables p i n) .value))
           → Through p (entAt (s .e1) i) (entAt (s .e2) (midAt tables i n)) (entAt (s .e3) (lastAt tables p i n))
-      go (inl e) = absurd (no-way (sym (ap finite e) ∙ f))
+      go (inl e) = absurd (clash f (ap finite e))
       go (inr q) = record {
         i = i;
         n = n;
@@ -168,7 +145,7 @@ module _ (p : ℕ) (s : Sides) (L : AllLast p s) where
       go : Seen tables p s (joinTo tables p s 128)
           → Through p (entAt (s .e1) (joinTo tables p s 128 .i1)) (entAt (s .e2) (joinTo tables p s 128 .i2))
           (entAt (s .e3) (joinTo tables p s 128 .i3))
-      go (inl e) = absurd (no-way (sym (ap finite e) ∙ f))
+      go (inl e) = absurd (clash f (ap finite e))
       go (inr q) = subst (λ (w : Way). Through p (entAt (s .e1) (w .i1)) (entAt (s .e2) (w .i2)) (entAt (s .e3) (w .i3))) (sym (q .4))
           (way-through (q .0) (q .1) (q .2) (q .3) (sym (ap (λ (w : Way). finite (w .cost)) (q .4)) ∙ f))
 
@@ -184,16 +161,7 @@ module _ (p : ℕ) (s : Sides) (L : AllLast p s) where
 -- ---- one parity, at targets up to a million
 closed-last : (Byte : ℕ → Type 0) (p r : ℕ) (b : Closed) (e : Entry) (under : Bool) (new : Entry) → Fine Byte p r b e → Held Byte p r b new
     → Last Byte p r b (closed e under new)
-closed-last Byte p r b e under new f h = go (e .exact) (f .held)
-  where
-    go : (m : Bool) → (m ≡ true → Held Byte p r b e)
-        → Last Byte p r b (cond m e (cond under new (record { value = infinity; exact = true; byte = 0; key = 0 })))
-    go true k = inr (k refl)
-    go false k = at under
-      where
-        at : (m : Bool) → Last Byte p r b (cond m new (record { value = infinity; exact = true; byte = 0; key = 0 }))
-        at true = inr h
-        at false = inl refl
+closed-last Byte p r b e under new f h = closed-keeps (Last Byte p r b) e under new (λ q. inr (f .held q)) (inr h) (inl refl)
 
 -- an exact entry, and one whose best path is under the cost known, has a finite value at the last join
 abbrev Stays : Entry → Bool → Type 0
@@ -204,69 +172,53 @@ closed-below : (e : Entry) (under : Bool) (new : Entry) → Below Far (e .value)
 closed-below e under new a b k = go (e .exact) refl k
   where
     go : (m : Bool) → e .exact ≡ m → (e .exact ≡ true) ⊎ (under ≡ true)
-        → Below Far ((cond m e (cond under new (record { value = infinity; exact = true; byte = 0; key = 0 }))) .value)
+        → Below Far ((cond m e (cond under new infeasible)) .value)
     go true q k = a
-    go false q (inl w) = absurd (no-way (sym q ∙ w))
-    go false q (inr w) = subst (λ (m : Bool).
-        Below Far ((cond m new (record { value = infinity; exact = true; byte = 0; key = 0 })) .value)) (sym w) b
+    go false q (inl w) = absurd (clash w q)
+    go false q (inr w) = subst (λ (m : Bool). Below Far ((cond m new infeasible) .value)) (sym w) b
+
+-- so in a list of n entries, `new` resolved in full, that is closed by the bounds b and the cost x
+closed-at : (n : ℕ) (es : List Entry) (b : List Float) (x : Float) (new : ℕ → Entry) (i : ℕ) → i < n → Below Far (entAt es i .value)
+    → Below Far (new i .value) → Stays (entAt es i) (lt (getD b i nan) x)
+    → Below Far (entAt (tab (λ (j : ℕ). closed (entAt es j) (lt (getD b j nan) x) (new j)) n) i .value)
+closed-at n es b x new i h a c k =
+    subst (λ (e : Entry). Below Far (e .value))
+    (sym (tab-at Entry noEntry (λ (j : ℕ). closed (entAt es j) (lt (getD b j nan) x) (new j)) n i h))
+    (closed-below (entAt es i) (lt (getD b i nan) x) (new i) a c k)
 
 module _ (u : Rule) (U0 : RuleOk u) (t : Targets) (T1 : (j : ℕ) → j < 8 → Target (getD (t .t1) j nan))
     (T2 : (j : ℕ) → j < 8 → Target (getD (t .t2) j nan)) (T3 : (j : ℕ) → j < 8 → Target (getD (t .t3) j nan)) (p : ℕ) (P0 : p < 2) where
-  new1 : (i : ℕ) → i < 128 → Held (EndByte tables 0 (i % 64)) p (i / 64) (classOf tables (i / 64)) (solved1 tables u (t .t1) p i)
-  new1 i h = end-held u U0 (t .t1) T1 p P0 0 (i / 64) (i % 64) (lit≤ tt) (half h) (small i)
+  -- an end, kind 0 the first and kind 1 the last
+  module _ (kind : ℕ) (K0 : kind < 2) (ts : List Float) (T0 : (j : ℕ) → j < 8 → Target (getD ts j nan)) where
+    end-new : (i : ℕ) → i < 128
+        → Held (EndByte tables kind (i % 64)) p (i / 64) (classOf tables (i / 64)) (endResolve tables u ts kind p (i / 64) (i % 64))
+    end-new i h = end-held u U0 ts T0 p P0 kind (i / 64) (i % 64) K0 (half h) (small i)
 
-  new2 : (i : ℕ) → i < 256 → Held (MidByte tables i) p (i % 2) (tables .mixed) (solved2 tables u (t .t2) p i)
-  new2 i h = mid-held u U0 (t .t2) T2 p P0 (getD (tables .sets) (i / 2) 0) (i % 2) (bit i)
+    end-kept : Kept 128 (λ i. endStart tables ts kind p (i / 64) (i % 64)) (λ i. endResolve tables u ts kind p (i / 64) (i % 64))
+        (λ i. Fine (EndByte tables kind (i % 64)) p (i / 64) (classOf tables (i / 64)))
+        (λ i. Last (EndByte tables kind (i % 64)) p (i / 64) (classOf tables (i / 64)))
+    end-kept = record {
+      start = λ i h. end-start u U0 ts T0 p P0 kind (i / 64) (i % 64) K0 (half h) (small i);
+      solved = λ i h. held-fine (end-new i h);
+      close = λ i h e b f. closed-last _ p _ _ e b _ f (end-new i h);
+    }
 
-  new3 : (i : ℕ) → i < 128 → Held (EndByte tables 1 (i % 64)) p (i / 64) (classOf tables (i / 64)) (solved3 tables u (t .t3) p i)
-  new3 i h = end-held u U0 (t .t3) T3 p P0 1 (i / 64) (i % 64) (lit≤ tt) (half h) (small i)
+  mid-new : (i : ℕ) → Held (MidByte tables i) p (i % 2) (tables .mixed) (solved2 tables u (t .t2) p i)
+  mid-new i = mid-held u U0 (t .t2) T2 p P0 (getD (tables .sets) (i / 2) 0) (i % 2) (bit i)
 
-  starts-fine : AllFine p (starts tables t p)
-  unfolding starts
-  starts-fine = record {
-    one = λ i h. subst (Fine (EndByte tables 0 (i % 64)) p (i / 64) (classOf tables (i / 64)))
-        (sym (tab-at Entry noEntry (λ i. endStart tables (t .t1) 0 p (i / 64) (i % 64)) 128 i h))
-        (end-start u U0 (t .t1) T1 p P0 0 (i / 64) (i % 64) (lit≤ tt) (half h) (small i));
-    two = λ i h. subst (Fine (MidByte tables i) p (i % 2) (tables .mixed))
-        (sym (tab-at Entry noEntry (λ i. midStart tables (t .t2) p (getD (tables .sets) (i / 2) 0) (i % 2)) 256 i h))
-        (mid-start u U0 (t .t2) T2 p P0 (getD (tables .sets) (i / 2) 0) (i % 2) (bit i));
-    three = λ i h. subst (Fine (EndByte tables 1 (i % 64)) p (i / 64) (classOf tables (i / 64)))
-        (sym (tab-at Entry noEntry (λ i. endStart tables (t .t3) 1 p (i / 64) (i % 64)) 128 i h))
-        (end-start u U0 (t .t3) T3 p P0 1 (i / 64) (i % 64) (lit≤ tt) (half h) (small i));
-  }
-
-  seeded-fine : (s : Sides) (w : Way) → AllFine p s → AllFine p (seeded tables u t p s w)
-  seeded-fine s w a = record {
-    one = λ j. fixed-keeps (λ j e. j < 128 → Fine (EndByte tables 0 (j % 64)) p (j / 64) (classOf tables (j / 64)) e) (s .e1) (w .i1)
-        (solved1 tables u (t .t1) p (w .i1)) j
-        (λ e h. subst (λ (i : ℕ). Fine (EndByte tables 0 (j % 64)) p (j / 64) (classOf tables (j / 64)) (solved1 tables u (t .t1) p i))
-        (sym e) (held-fine (new1 j h))) (a .one j);
-    two = λ j. fixed-keeps (λ j e. j < 256 → Fine (MidByte tables j) p (j % 2) (tables .mixed) e) (s .e2) (w .i2)
-        (solved2 tables u (t .t2) p (w .i2)) j
-        (λ e h. subst (λ (i : ℕ). Fine (MidByte tables j) p (j % 2) (tables .mixed) (solved2 tables u (t .t2) p i)) (sym e)
-        (held-fine (new2 j h))) (a .two j);
-    three = λ j. fixed-keeps (λ j e. j < 128 → Fine (EndByte tables 1 (j % 64)) p (j / 64) (classOf tables (j / 64)) e) (s .e3) (w .i3)
-        (solved3 tables u (t .t3) p (w .i3)) j
-        (λ e h. subst (λ (i : ℕ). Fine (EndByte tables 1 (j % 64)) p (j / 64) (classOf tables (j / 64)) (solved3 tables u (t .t3) p i))
-        (sym e) (held-fine (new3 j h))) (a .three j);
+  mid-kept : Kept 256 (λ i. midStart tables (t .t2) p (getD (tables .sets) (i / 2) 0) (i % 2)) (λ i. solved2 tables u (t .t2) p i)
+      (λ i. Fine (MidByte tables i) p (i % 2) (tables .mixed)) (λ i. Last (MidByte tables i) p (i % 2) (tables .mixed))
+  mid-kept = record {
+    start = λ i h. mid-start u U0 (t .t2) T2 p P0 (getD (tables .sets) (i / 2) 0) (i % 2) (bit i);
+    solved = λ i h. held-fine (mid-new i);
+    close = λ i h e b f. closed-last _ p _ _ e b _ f (mid-new i);
   }
 
   seeds-fine : (u0 : Float) (n : ℕ) → AllFine p (seedTo tables u t p (record { sides = starts tables t p; u = u0; done = false }) n .sides)
-  seeds-fine u0 n = seeds-keep tables u t p (AllFine p) seeded-fine (record { sides = starts tables t p; u = u0; done = false }) starts-fine n
+  seeds-fine = seeds-have tables u t p (end-kept 0 (lit≤ tt) (t .t1) T1) mid-kept (end-kept 1 (lit≤ tt) (t .t3) T3)
 
   closing-last : (s : Sides) (b : Bounds) → AllFine p s → AllLast p (closing tables u t p s b)
-  unfolding closing
-  closing-last s b a = record {
-    one = λ i h. subst (Last (EndByte tables 0 (i % 64)) p (i / 64) (classOf tables (i / 64)))
-        (sym (tab-at Entry noEntry (λ i. closed (entAt (s .e1) i) (lt (getD (b .b1) i nan) (b .u)) (solved1 tables u (t .t1) p i)) 128 i h))
-        (closed-last _ p _ _ (entAt (s .e1) i) (lt (getD (b .b1) i nan) (b .u)) (solved1 tables u (t .t1) p i) (a .one i h) (new1 i h));
-    two = λ i h. subst (Last (MidByte tables i) p (i % 2) (tables .mixed))
-        (sym (tab-at Entry noEntry (λ i. closed (entAt (s .e2) i) (lt (getD (b .b2) i nan) (b .u)) (solved2 tables u (t .t2) p i)) 256 i h))
-        (closed-last _ p _ _ (entAt (s .e2) i) (lt (getD (b .b2) i nan) (b .u)) (solved2 tables u (t .t2) p i) (a .two i h) (new2 i h));
-    three = λ i h. subst (Last (EndByte tables 1 (i % 64)) p (i / 64) (classOf tables (i / 64)))
-        (sym (tab-at Entry noEntry (λ i. closed (entAt (s .e3) i) (lt (getD (b .b3) i nan) (b .u)) (solved3 tables u (t .t3) p i)) 128 i h))
-        (closed-last _ p _ _ (entAt (s .e3) i) (lt (getD (b .b3) i nan) (b .u)) (solved3 tables u (t .t3) p i) (a .three i h) (new3 i h));
-  }
+  closing-last = closing-has tables u t p (end-kept 0 (lit≤ tt) (t .t1) T1) mid-kept (end-kept 1 (lit≤ tt) (t .t3) T3)
 
   pub last-all : (u0 : Float) → AllLast p (lastSides tables u t p (seedOf tables u t p u0))
   last-all u0 =
@@ -341,7 +293,7 @@ module _ (u : Rule) (U0 : RuleOk u) (t : Targets) (T1 : (j : ℕ) → j < 8 → 
     where
       fresh : seedAt n .done ≡ false → SeedKnown (seedAt n) → seedAt n .u ≡ infinity
       fresh q (inl e) = e
-      fresh q (inr z) = absurd (no-way (sym q ∙ z .0))
+      fresh q (inr z) = absurd (clash (z .0) q)
 
       go : (m : Bool) → seedAt n .done ≡ m → SeedKnown (seedAt n)
           → SeedKnown (cond m (seedAt n) (seedBy tables u t p (seedAt n) (joinTo tables p (seedAt n .sides) 128)))
@@ -395,22 +347,31 @@ module _ (u : Rule) (U0 : RuleOk u) (t : Targets) (T1 : (j : ℕ) → j < 8 → 
         go (inl q) = subst (λ (z : Float). T (finite z)) (sym (q .1)) (lower-fin (getD b i nan) c f (inr (subst (λ (z : ℕ). Fin b z) (sym (q .0)) g)))
         go (inr q) = subst (λ (z : Float). T (finite z)) (sym q) g
 
-    first1 : (n : ℕ) → n < 4096 → Fin (bnd (suc n) .b1) 0
-    unfolding boundsTo
-    first1 zero h = lowered-first 128 0 (way 0 .cost) (lit≤ tt) (way-fin 0 h)
-    first1 (suc n) h = lowered-more (bnd (suc n) .b1) (way (suc n) .i1) 0 (way (suc n) .cost) (way-fin (suc n) h) (first1 n (omega arith))
+    -- one of the three lists of bounds, `get` it and `slot` its place on a path: the place j of the first path is finite
+    first : (get : Bounds → List Float) (slot : Way → ℕ) (m j : ℕ) → j < m → get (bnd 0) ≡ tab (λ (i : ℕ). infinity) m → slot (way 0) ≡ j
+        → ((n : ℕ) → get (bnd (suc n)) ≡ lowered (get (bnd n)) (slot (way n)) (way n .cost))
+        → (n : ℕ) → n < 4096 → Fin (get (bnd (suc n))) j
+    first get slot m j l start at next zero h =
+        subst (λ (b : List Float). Fin b j) (sym (next 0))
+        (subst (λ (b : List Float). Fin (lowered b (slot (way 0)) (way 0 .cost)) j) (sym start)
+        (subst (λ (i : ℕ). Fin (lowered (tab (λ (i : ℕ). infinity) m) i (way 0 .cost)) j) (sym at)
+        (lowered-first m j (way 0 .cost) l (way-fin 0 h))))
+    first get slot m j l start at next (suc n) h =
+        subst (λ (b : List Float). Fin b j) (sym (next (suc n)))
+        (lowered-more (get (bnd (suc n))) (slot (way (suc n))) j (way (suc n) .cost) (way-fin (suc n) h)
+        (first get slot m j l start at next n (omega arith)))
 
-    first2 : (n : ℕ) → n < 4096 → Fin (bnd (suc n) .b2) (midAt tables 0 0)
+    first1 : Fin (bnd 4096 .b1) 0
     unfolding boundsTo
-    first2 zero h = lowered-first 256 (midAt tables 0 0) (way 0 .cost) (m-lt 0 0 (lit≤ tt)) (way-fin 0 h)
-    first2 (suc n) h = lowered-more (bnd (suc n) .b2) (way (suc n) .i2) (midAt tables 0 0) (way (suc n) .cost) (way-fin (suc n) h)
-        (first2 n (omega arith))
+    first1 = first (λ b. b .b1) (λ w. w .i1) 128 0 (lit≤ tt) refl refl (λ n. refl) 4095 (lit≤ tt)
 
-    first3 : (n : ℕ) → n < 4096 → Fin (bnd (suc n) .b3) (lastAt tables p 0 0)
+    first2 : Fin (bnd 4096 .b2) (midAt tables 0 0)
     unfolding boundsTo
-    first3 zero h = lowered-first 128 (lastAt tables p 0 0) (way 0 .cost) (n-lt p 0 0 (lit≤ tt)) (way-fin 0 h)
-    first3 (suc n) h = lowered-more (bnd (suc n) .b3) (way (suc n) .i3) (lastAt tables p 0 0) (way (suc n) .cost) (way-fin (suc n) h)
-        (first3 n (omega arith))
+    first2 = first (λ b. b .b2) (λ w. w .i2) 256 (midAt tables 0 0) (m-lt 0 0 (lit≤ tt)) refl refl (λ n. refl) 4095 (lit≤ tt)
+
+    first3 : Fin (bnd 4096 .b3) (lastAt tables p 0 0)
+    unfolding boundsTo
+    first3 = first (λ b. b .b3) (λ w. w .i3) 128 (lastAt tables p 0 0) (n-lt p 0 0 (lit≤ tt)) refl refl (λ n. refl) 4095 (lit≤ tt)
 
     -- ---- what is left at the last join
     abbrev left : Sides
@@ -418,30 +379,18 @@ module _ (u : Rule) (U0 : RuleOk u) (t : Targets) (T1 : (j : ℕ) → j < 8 → 
 
     stay1 : (i : ℕ) → i < 128 → Stays (entAt (s .e1) i) (lt (getD (bnd 4096 .b1) i nan) (bnd 4096 .u)) → Below Far (entAt (left .e1) i .value)
     unfolding closing
-    stay1 i h k =
-        subst (λ (e : Entry). Below Far (e .value))
-        (sym (tab-at Entry noEntry (λ i.
-        closed (entAt (s .e1) i) (lt (getD (bnd 4096 .b1) i nan) (bnd 4096 .u)) (solved1 tables u (t .t1) p i)) 128 i h))
-        (closed-below (entAt (s .e1) i) (lt (getD (bnd 4096 .b1) i nan) (bnd 4096 .u)) (solved1 tables u (t .t1) p i) (a .one i h .below)
-        (new1 i h .good .below) k)
+    stay1 i h = closed-at 128 (s .e1) (bnd 4096 .b1) (bnd 4096 .u) (λ i. solved1 tables u (t .t1) p i) i h (a .one i h .below)
+        (end-new 0 (lit≤ tt) (t .t1) T1 i h .good .below)
 
     stay2 : (i : ℕ) → i < 256 → Stays (entAt (s .e2) i) (lt (getD (bnd 4096 .b2) i nan) (bnd 4096 .u)) → Below Far (entAt (left .e2) i .value)
     unfolding closing
-    stay2 i h k =
-        subst (λ (e : Entry). Below Far (e .value))
-        (sym (tab-at Entry noEntry (λ i.
-        closed (entAt (s .e2) i) (lt (getD (bnd 4096 .b2) i nan) (bnd 4096 .u)) (solved2 tables u (t .t2) p i)) 256 i h))
-        (closed-below (entAt (s .e2) i) (lt (getD (bnd 4096 .b2) i nan) (bnd 4096 .u)) (solved2 tables u (t .t2) p i) (a .two i h .below)
-        (new2 i h .good .below) k)
+    stay2 i h = closed-at 256 (s .e2) (bnd 4096 .b2) (bnd 4096 .u) (λ i. solved2 tables u (t .t2) p i) i h (a .two i h .below)
+        (mid-new i .good .below)
 
     stay3 : (i : ℕ) → i < 128 → Stays (entAt (s .e3) i) (lt (getD (bnd 4096 .b3) i nan) (bnd 4096 .u)) → Below Far (entAt (left .e3) i .value)
     unfolding closing
-    stay3 i h k =
-        subst (λ (e : Entry). Below Far (e .value))
-        (sym (tab-at Entry noEntry (λ i.
-        closed (entAt (s .e3) i) (lt (getD (bnd 4096 .b3) i nan) (bnd 4096 .u)) (solved3 tables u (t .t3) p i)) 128 i h))
-        (closed-below (entAt (s .e3) i) (lt (getD (bnd 4096 .b3) i nan) (bnd 4096 .u)) (solved3 tables u (t .t3) p i) (a .three i h .below)
-        (new3 i h .good .below) k)
+    stay3 i h = closed-at 128 (s .e3) (bnd 4096 .b3) (bnd 4096 .u) (λ i. solved3 tables u (t .t3) p i) i h (a .three i h .below)
+        (end-new 1 (lit≤ tt) (t .t3) T3 i h .good .below)
 
     under : (v : Float) → T (finite v) → bnd 4096 .u ≡ infinity → lt v (bnd 4096 .u) ≡ true
     under v f e = subst (λ (z : Float). lt v z ≡ true) (sym e) (inf-lt v f)
@@ -453,10 +402,10 @@ module _ (u : Rule) (U0 : RuleOk u) (t : Targets) (T1 : (j : ℕ) → j < 8 → 
         go : Known s (bnd 4096 .u) → finite (joinTo tables p left 128 .cost) ≡ true
         go (inl e) =
             join-finite p left (closing-last s (bnd 4096) a) 0 0 (lit≤ tt) (lit≤ tt)
-            (stay1 0 (lit≤ tt) (inr (under (getD (bnd 4096 .b1) 0 nan) (first1 4095 (lit≤ tt)) e)))
-            (stay2 (midAt tables 0 0) (m-lt 0 0 (lit≤ tt)) (inr (under (getD (bnd 4096 .b2) (midAt tables 0 0) nan) (first2 4095 (lit≤ tt)) e)))
+            (stay1 0 (lit≤ tt) (inr (under (getD (bnd 4096 .b1) 0 nan) first1 e)))
+            (stay2 (midAt tables 0 0) (m-lt 0 0 (lit≤ tt)) (inr (under (getD (bnd 4096 .b2) (midAt tables 0 0) nan) first2 e)))
             (stay3 (lastAt tables p 0 0) (n-lt p 0 0 (lit≤ tt))
-            (inr (under (getD (bnd 4096 .b3) (lastAt tables p 0 0) nan) (first3 4095 (lit≤ tt)) e)))
+            (inr (under (getD (bnd 4096 .b3) (lastAt tables p 0 0) nan) first3 e)))
         go (inr q) =
             let x1 = entAt (s .e1) (q .i) .exact in
             let x2 = entAt (s .e2) (midAt tables (q .i) (q .n)) .exact in

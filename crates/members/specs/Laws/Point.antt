@@ -120,13 +120,14 @@ module _ (p : ℕ) (P0 : p < 2) (e1 e2 e3 : Entry) (H : Through p e1 e2 e3) wher
 
   -- so each has an even number of set bits
   even1 : weight 8 (e1 .byte) % 2 ≡ 0
-  even1 = ap (λ (n : ℕ). weight 8 n % 2) (sym (first-at x ∙ ap₂ prefixOf (parts .0) (parts .1) ∙ path1)) ∙ bytes-even x .0
+  even1 = subst (λ (c : ℕ). weight 8 c % 2 ≡ 0) (first-at x ∙ ap₂ prefixOf (parts .0) (parts .1) ∙ path1) (bytes-even x .0)
 
   even2 : weight 8 (e2 .byte) % 2 ≡ 0
-  even2 = ap (λ (n : ℕ). weight 8 n % 2) (sym (second-at x ∙ ap₂ middleOf (parts .0) (parts .2) ∙ path2)) ∙ bytes-even x .1
+  even2 = subst (λ (c : ℕ). weight 8 c % 2 ≡ 0) (second-at x ∙ ap₂ middleOf (parts .0) (parts .2) ∙ path2) (bytes-even x .1)
 
   even3 : weight 8 (e3 .byte) % 2 ≡ 0
-  even3 = ap (λ (n : ℕ). weight 8 n % 2) (sym (third-at x ∙ ap₂ suffixOf (ap₂ nextOf (parts .0) (parts .2)) (parts .3) ∙ path3)) ∙ bytes-even x .2
+  even3 =
+      subst (λ (c : ℕ). weight 8 c % 2 ≡ 0) (third-at x ∙ ap₂ suffixOf (ap₂ nextOf (parts .0) (parts .2)) (parts .3) ∙ path3) (bytes-even x .2)
 
   -- ---- the three rows
   abbrev v1 : List ℕ

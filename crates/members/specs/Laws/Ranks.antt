@@ -1,35 +1,28 @@
 -- A member's ranks as document 01 has them: a list of eight, within the bound of its class, whose class is that of the whole numbers k.
-use mathlib.Core.Path.{_≡_, refl, sym, ap, ap₂, _∙_, subst}
+use mathlib.Core.Path.{_≡_, refl, sym, ap, _∙_, subst}
 use mathlib.Core.Logic.{_≢_, _⊎_, inl, inr}
 use mathlib.Core.Bool.{true, _&&_}
 use mathlib.Core.List.{List, [], _∷_}
-use Prim.Native.Nat.{ℕ, zero, suc, _+_, _*_, _%_, _≤_, _<_, compare}
-use native.Mathlib.Nat.{mod-eq-of-lt}
+use Prim.Native.Nat.{ℕ, suc, _+_, _*_, _%_, _≤_, _<_, compare}
 use native.Mathlib.Decide.{ℕ-discrete}
 use native.Mathlib.Omega.{arith}
 use lib.Dec.{T, ltb, leb, eqb, ltb→lt, leb→le, eqb→eq}
 use lib.ListN.{getD, length}
-use lib.IntN.{ℤ, pos}
 use Rattle.laws.specs.Tests.{true-is, or-cases, and-left, and-right}
 use Rattle.laws.specs.Order.{pick3, lexLe, pick3-lt, pick3-eq}
-use Rattle.laws.specs.Whole.{modZ, divZ, mod4-lt}
-use Rattle.laws.specs.Bits.{weight}
-use Rattle.rank.specs.Coord.{kOf, valOf}
-use Rattle.rank.specs.Vector.{sq, cost, kZero, class, unpack, ranksBelow, within, boundCost, boundCut, middleCost, middleCut, inClass, inMiddle}
+use Rattle.rank.specs.Coord.{kOf}
+use Rattle.rank.specs.Vector.{sq, cost, class, unpack, ranksBelow, within, boundCost, boundCut, middleCost, middleCut, inClass, inMiddle}
 use Rattle.rank.specs.Laws.Vector.{rank-first, rank-rest, unpack-at, unpack-below}
-use Rattle.rank.specs.Section.{pointAt, bitsOf, ranksOf, kSum}
-use Rattle.rank.specs.Laws.Section.{point-uniform, point-bits, point-ranks, point-length, k-sum}
-use Rattle.tetra.specs.Laws.Point.{point-at, even-times, drop-even}
+use Rattle.trellis.specs.Code.{weight}
 use Rattle.search.specs.declared.Closed.{Closed}
-use Rattle.search.specs.Record.{member}
 use Rattle.search.specs.Bound.{holds, lexOf, lexNum}
 use Rattle.search.specs.Tables.{tables, classOf}
-use Rattle.search.specs.Laws.Tables.{class0-is, class1-is, mixed-is}
-use Rattle.search.specs.Entries.{rankAt}
+use Rattle.search.specs.Laws.Tables.{mixed-is}
+use Rattle.search.specs.Entries.{rankAt, sectionAt}
 use Rattle.nearest.specs.Laws.Forms.{sumTo, oddK}
 use Rattle.nearest.specs.Laws.Sums.{sum-same}
-use Rattle.nearest.specs.Laws.Packed.{cost-sum, k-sum-is}
-use Rattle.nearest.specs.Laws.Keys.{member-one, member-self}
+use Rattle.nearest.specs.Laws.Packed.{cost-sum, class-bound, cut-size, cut-below, key-class}
+use Rattle.nearest.specs.Laws.Keys.{member-is}
 use Rattle.nearest.specs.Laws.Shape.{oAt, o-lt}
 use Rattle.members.specs.Laws.Candidates.{Member}
 
@@ -45,14 +38,8 @@ digits-lex [] [] e s t a b h = go (ℕ-discrete a b)
     go : Dec (a ≡ b) → (a < b) ⊎ ((a ≡ b) × T (lexLe [] []))
     go (yes q) = inr (q, tt)
     go (no d) = inl (less h d)
-digits-lex [] (y ∷ w) e s t a b h = absurd (none e)
-  where
-    none : 0 ≡ suc (length w) → ⊥
-    none e = omega arith
-digits-lex (x ∷ v) [] e s t a b h = absurd (none e)
-  where
-    none : suc (length v) ≡ 0 → ⊥
-    none e = omega arith
+digits-lex [] (y ∷ w) e s t a b h = absurd (omega arith)
+digits-lex (x ∷ v) [] e s t a b h = absurd (omega arith)
 digits-lex (x ∷ v) (y ∷ w) e s t a b h =
     go (rank-first 16 x v s) (rank-first 16 y w t) (digits-lex v w (down e) (rank-rest 16 x v s) (rank-rest 16 y w t) (a * 16 + x) (b * 16 + y) h)
   where
@@ -88,10 +75,7 @@ module _ (key : ℕ) where
   holds-within C cut e s k h = go (or-cases (ltb total C) (eqb total C && leb (lexOf key) (lexNum 0 cut)) (true-is _ h))
     where
       lex : (0 < 0) ⊎ ((_≡_ {A = ℕ} 0 0) × T (lexLe (unpack 8 key) cut)) → T (lexLe (unpack 8 key) cut)
-      lex (inl l) = absurd (none l)
-        where
-          none : 0 < 0 → ⊥
-          none l = omega arith
+      lex (inl l) = absurd (omega arith)
       lex (inr q) = q .1
 
       go : T (ltb total C) ⊎ T (eqb total C && leb (lexOf key) (lexNum 0 cut)) → T (within C cut (unpack 8 key))
@@ -106,41 +90,19 @@ module _ (key : ℕ) where
   low-digits = unpack-below 8 key
 
   pub class-in : (r : ℕ) → r < 2 → holds (classOf tables r) total key ≡ true → T (inClass r (unpack 8 key))
-  unfolding ranksBelow
-  class-in zero l h = holds-within (boundCost 0) (boundCut 0) refl tt low-digits (subst (λ (b : Closed). holds b total key ≡ true) class0-is h)
-  class-in (suc zero) l h = holds-within (boundCost 1) (boundCut 1) refl tt low-digits (subst (λ (b : Closed). holds b total key ≡ true) class1-is h)
-  class-in (suc (suc r)) l h = absurd (none l)
-    where
-      none : suc (suc r) < 2 → ⊥
-      none l = omega arith
+  class-in r l h = holds-within (boundCost r) (boundCut r) (cut-size r) (cut-below r) low-digits
+      (subst (λ (b : Closed). holds b total key ≡ true) (class-bound r l) h)
 
   pub middle-in : holds (tables .mixed) total key ≡ true → T (inMiddle (unpack 8 key))
   unfolding ranksBelow
   middle-in h = holds-within middleCost middleCut refl tt low-digits (subst (λ (b : Closed). holds b total key ≡ true) mixed-is h)
 
--- ---- k is the quotient of o + 4 k
-quotient-of : (o : ℕ) (k : ℤ) → o < 4 → k ≡ divZ (member o k) 4
-quotient-of o k h = member-one o (modZ (member o k) 4) k (divZ (member o k) 4) h (mod4-lt (member o k)) (member-self (member o k)) .1
-
 -- ---- the class of the ranks is that of the whole numbers k, where the byte has an even number of set bits
 pub member-class : (p c r : ℕ) (b : Closed) (key : ℕ) → p < 2 → c < 256 → weight 8 c % 2 ≡ 0 → T (ranksBelow 8 (unpack 8 key))
     → Member p c r b key → class (unpack 8 key) ≡ r
-member-class p c r b key P0 C0 E low M =
-    let v = unpack 8 key in
-    let t = pointAt p c v in
-    let ranks = point-ranks p P0 c v low in
-    let s1 : modZ (kSum t) 2 ≡ (kZero (ranksOf t) + p * weight (length t) (bitsOf t)) % 2 =
-    k-sum p t (point-uniform p P0 c v low) (subst (λ (w : List ℕ). T (ranksBelow 8 w)) (sym ranks) low) in
-    let bits : bitsOf t ≡ c = point-bits p P0 c v low ∙ mod-eq-of-lt C0 in
-    let size : length t ≡ 8 = point-length p c v in
-    let s2 : (kZero (ranksOf t) + p * weight (length t) (bitsOf t)) % 2
-    ≡ (kZero v + p * weight 8 c) % 2 = ap₂ (λ (a d : ℕ). (a + d) % 2) (ap kZero ranks) (ap₂ (λ (a d : ℕ). p * weight a d) size bits) in
-    let s3 = drop-even (kZero v) (p * weight 8 c) (even-times p (weight 8 c) E) in
-    let s4 : modZ (kSum t) 2 ≡ sumTo (λ j. modZ (kOf (getD t j (pos 0))) 2) 8 % 2 = k-sum-is t
-    ∙ ap (λ (m : ℕ). sumTo (λ j. modZ (kOf (getD t j (pos 0))) 2) m % 2) size in
-    sym (s1 ∙ s2 ∙ s3) ∙ s4 ∙ ap (λ (m : ℕ). m % 2)
-    (sum-same (λ j. modZ (kOf (getD t j (pos 0))) 2) (λ j. oddK (M .k j)) 8
-    (λ j h. ap (λ (z : ℤ). modZ (kOf z) 2) (at j h) ∙ ap oddK (sym (quotient-of (oAt p c j) (M .k j) (o-lt p c j P0))))) ∙ M .class
-  where
-    at : (j : ℕ) → j < 8 → getD (pointAt p c (unpack 8 key)) j (pos 0) ≡ member (oAt p c j) (M .k j)
-    at j h = point-at p c (unpack 8 key) j h ∙ ap (valOf (oAt p c j)) (unpack-at 8 key j h) ∙ M .at j h
+member-class p c r b key P0 C0 even low M =
+    sym (key-class p c key P0 C0 even low)
+    ∙ ap (λ (n : ℕ). n % 2)
+    (sum-same (λ j. oddK (kOf (sectionAt p c key j))) (λ j. oddK (M .sec .k j)) 8
+    (λ j h. ap oddK (ap kOf (M .sec .at j h) ∙ sym (member-is (oAt p c j) (M .sec .k j) (o-lt p c j P0) .1))))
+    ∙ M .sec .class

@@ -2,7 +2,8 @@
 use mathlib.Core.Path.{_≡_, refl, sym}
 use mathlib.Core.List.{List}
 use Prim.Native.Nat.{ℕ, zero, suc, _+_, _*_, _^_, _≤_, _<_, zero-le}
-use native.Mathlib.Nat.{le-refl, le-trans, le-of-eq, le-of-mul-le-mul-right, lt-of-le-of-lt, lt-of-lt-of-le, le-of-lt, mul-le-mul, mul-le-mul-right, add-le-add, add-mul, suc-mul}
+use native.Mathlib.Nat.{le-refl, le-trans, le-of-eq, le-of-lt, lt-of-le-of-lt, lt-of-lt-of-le, le-of-mul-le-mul-right, mul-le-mul}
+use native.Mathlib.Nat.{mul-le-mul-right, add-le-add, add-mul, suc-mul}
 use native.Mathlib.Omega.{arith}
 use lib.Dec.{T, lit≤}
 use lib.Pow.{pow-pos}
@@ -12,10 +13,10 @@ use lib.Ieee.{Float, nan, binary64, fits, add, sub, ofInt}
 use lib.Ieee.Scale.{finite}
 use Rattle.laws.specs.Whole.{gap}
 use Rattle.float.specs.Value.{U, magUnits, posUnits, negUnits, zero64}
-use Rattle.float.specs.Laws.Exact.{mag-parts, ofInt-whole, zero-fits, zero-mag}
+use Rattle.float.specs.Laws.Exact.{mag-parts, neg-mag, ofInt-whole, zero-fits, zero-mag}
 use Rattle.float.specs.Laws.Error.{halfUlp}
-use Rattle.float.specs.Laws.Near.{near-self, near-mag-plain}
-use Rattle.float.specs.Laws.Arithmetic.{near-add, near-sub, mul-rounded}
+use Rattle.float.specs.Laws.Near.{near-self, near-neg, near-mag-plain}
+use Rattle.float.specs.Laws.Arithmetic.{near-add, mul-rounded}
 use Rattle.search.specs.Record.{sqTo, slotK, member}
 use Rattle.search.specs.Entries.{distTo}
 use Rattle.nearest.specs.Laws.Shape.{member-abs, slot-abs}
@@ -42,7 +43,8 @@ zero-below B = record { fit = zero-fits; fin = tt; low = le-trans (le-of-eq zero
 
 pub add-below : {A B : ℕ} {x y : Float} → Below A x → Below B y → A + B < Room → Below (A + B + Err) (add binary64 x y)
 add-below {A} {B} {x} {y} a b h =
-    let n = near-add 60 (near-self x (a .fit) (a .fin)) (near-self y (b .fit) (b .fin)) (lit≤ tt) (lt-of-le-of-lt (add-le-add (a .low) (b .low)) h) in
+    let n = near-add 60 (near-self x (a .fit) (a .fin)) (near-self y (b .fit) (b .fin)) (lit≤ tt)
+    (lt-of-le-of-lt (add-le-add (a .low) (b .low)) h) in
     record {
       fit = n .fit;
       fin = n .fin;
@@ -54,19 +56,12 @@ add-below {A} {B} {x} {y} a b h =
     go : (p n q m x y A B e : ℕ) → x ≡ p + n → y ≡ q + m → x ≤ A → y ≤ B → gap (p + q) (n + m) + (0 + 0 + e * 1) ≤ A + B + e
     go p n q m x y A B e h k u v = omega arith
 
+-- a difference is the sum with the other sign
 pub sub-below : {A B : ℕ} {x y : Float} → Below A x → Below B y → A + B < Room → Below (A + B + Err) (sub binary64 x y)
-sub-below {A} {B} {x} {y} a b h =
-    let n = near-sub 60 (near-self x (a .fit) (a .fin)) (near-self y (b .fit) (b .fin)) (lit≤ tt) (lt-of-le-of-lt (add-le-add (a .low) (b .low)) h) in
-    record {
-      fit = n .fit;
-      fin = n .fin;
-      low =
-          le-trans (near-mag-plain n) (go (posUnits x) (negUnits x) (posUnits y) (negUnits y) (magUnits x) (magUnits y) A B Err (mag-parts x)
-          (mag-parts y) (a .low) (b .low));
-    }
-  where
-    go : (p n q m x y A B e : ℕ) → x ≡ p + n → y ≡ q + m → x ≤ A → y ≤ B → gap (p + m) (n + q) + (0 + 0 + e * 1) ≤ A + B + e
-    go p n q m x y A B e h k u v = omega arith
+unfolding sub
+sub-below {y = y} a b h =
+    let n = near-neg (near-self y (b .fit) (b .fin)) in
+    add-below a (record { fit = n .fit; fin = n .fin; low = le-trans (le-of-eq (neg-mag y)) (b .low) }) h
 
 -- ---- targets: at most a million in size
 abbrev pub Target : Float → Type 0
@@ -94,21 +89,30 @@ term-below v t h T0 =
     same : 2 ^ 1098 * 2 ^ 1098 ≡ 2 ^ 1122 * U
     same = refl
 
+-- ---- one more term, added or taken away
+one-more : (n : ℕ) → n * Term + (2 ^ 1122 + Err) + Err ≤ suc n * Term
+one-more n = more n Term (2 ^ 1122 + Err) Err (lit≤ tt)
+  where
+    more : (n t a e : ℕ) → a + e ≤ t → n * t + a + e ≤ suc n * t
+    more n t a e h = let x = suc-mul n t in omega arith
+
+one-room : (n : ℕ) → n < 12 → n * Term + (2 ^ 1122 + Err) < Room
+one-room n h = lt-of-le-of-lt (add-le-add (mul-le-mul-right Term (le-of-lt h)) (le-refl (2 ^ 1122 + Err))) (lit≤ tt)
+
+pub plus : (n : ℕ) → n < 12 → (x y : Float) → Below (n * Term) x → Below (2 ^ 1122 + Err) y → Below (suc n * Term) (add binary64 x y)
+plus n h x y a b = wider (suc n * Term) (one-more n) (add-below a b (one-room n h))
+
+pub less : (n : ℕ) → n < 12 → (x y : Float) → Below (n * Term) x → Below (2 ^ 1122 + Err) y → Below (suc n * Term) (sub binary64 x y)
+less n h x y a b = wider (suc n * Term) (one-more n) (sub-below a b (one-room n h))
+
 -- ---- a section's distance, summed from zero on
 pub dist-below : (v : ℕ → ℤ) (ts : List Float) → ((j : ℕ) → j < 8 → natAbs (v j) < 2 ^ 22) → ((j : ℕ) → j < 8 → Target (getD ts j nan))
     → (n : ℕ) → n ≤ 8 → Below (n * Term) (distTo v ts n)
 unfolding distTo
 dist-below v ts W T0 zero h = zero-below (0 * Term)
 dist-below v ts W T0 (suc n) h =
-    wider (suc n * Term) (more n Term (2 ^ 1122 + Err) Err (lit≤ tt))
-    (add-below (dist-below v ts W T0 n (omega arith)) (term-below (v n) (getD ts n nan) (W n h) (T0 n h))
-    (lt-of-le-of-lt (add-le-add (mul-le-mul-right Term (le8 h)) (le-refl (2 ^ 1122 + Err))) (lit≤ tt)))
-  where
-    le8 : suc n ≤ 8 → n ≤ 8
-    le8 h = omega arith
-
-    more : (n t a e : ℕ) → a + e ≤ t → n * t + a + e ≤ suc n * t
-    more n t a e h = let x = suc-mul n t in omega arith
+    plus n (omega arith) (distTo v ts n) (sqTo (v n) (getD ts n nan)) (dist-below v ts W T0 n (omega arith))
+    (term-below (v n) (getD ts n nan) (W n h) (T0 n h))
 
 -- ---- whole numbers
 pub member-far : (o : ℕ) (k : ℤ) → o < 4 → natAbs k ≤ 1000002 → natAbs (member o k) < 2 ^ 22

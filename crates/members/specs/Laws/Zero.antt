@@ -147,6 +147,16 @@ all-order false true = tt
 all-order true false = tt
 all-order true true = tt
 
+not-true : (b : Bool) → T (not b) → b ≡ false
+not-true true h = absurd h
+not-true false h = refl
+
+order-at : (s r : Bool) → (lt (regF s 0) (regF r 2) ≡ true) × (lt (regF s 0) (regF r 0) ≡ false) × (lt (regF s 2) (regF r 0) ≡ false)
+unfolding order
+order-at s r =
+    let q = split3 (lt (regF s 0) (regF r 2)) (not (lt (regF s 0) (regF r 0))) (not (lt (regF s 2) (regF r 0))) (all-order s r) in
+    (is-true _ (q .0), not-true _ (q .1), not-true _ (q .2))
+
 -- ---- ranks of at most 1 are within the middle's bound, and so is what costs less
 square-le : (r m : ℕ) → 2 * r + 1 ≤ m → sq r ≤ m * m
 square-le r m h = mul-le-mul h h
@@ -214,17 +224,10 @@ even-case c j = go (c / 2 ^ j % 2) (mod-lt (c / 2 ^ j) (zero-lt-suc 1))
     go : (b : ℕ) → b < 2 → (0 + 2 * b ≡ 0) ⊎ (0 + 2 * b ≡ 2)
     go zero h = inl refl
     go (suc zero) h = inr refl
-    go (suc (suc b)) h = absurd (none h)
-      where
-        none : suc (suc b) < 2 → ⊥
-        none h = omega arith
+    go (suc (suc b)) h = absurd (omega arith)
 
 odd-apart : (c j : ℕ) → (oAt 1 c j ≢ 0) × (oAt 1 c j ≢ 2)
 odd-apart c j = let a = mod-lt (c / 2 ^ j) (zero-lt-suc 1) in (omega arith, omega arith)
-
-not-true : (b : Bool) → T (not b) → b ≡ false
-not-true true h = absurd h
-not-true false h = refl
 
 module _ (ts : List Float) (p c : ℕ) (P0 : p < 2) (T0 : (j : ℕ) → j < 8 → Target (getD ts j nan)) where
   abbrev e : List Coord
@@ -261,22 +264,11 @@ module _ (ts : List Float) (p c : ℕ) (P0 : p < 2) (T0 : (j : ℕ) → j < 8 �
   reg-at j q h z = at j h .reg-is ∙ ap (regF (at j h .s)) z
 
   grows : (a b : ℕ) → a < 8 → b < 8 → o a ≡ 0 → o b ≡ 2 → lt (coordAt e a .regret) (coordAt e b .regret) ≡ true
-  unfolding order
-  grows a b h k x y =
-      ap₂ lt (reg-at a 0 h x) (reg-at b 2 k y)
-      ∙ is-true _ (split3 (lt (regF (at a h .s) 0) (regF (at b k .s) 2)) (not (lt (regF (at a h .s) 0) (regF (at b k .s) 0)))
-      (not (lt (regF (at a h .s) 2) (regF (at b k .s) 0))) (all-order (at a h .s) (at b k .s)) .0)
+  grows a b h k x y = ap₂ lt (reg-at a 0 h x) (reg-at b 2 k y) ∙ order-at (at a h .s) (at b k .s) .0
 
   least : (a b : ℕ) → a < 8 → b < 8 → (o a ≡ 0) ⊎ (o a ≡ 2) → o b ≡ 0 → lt (coordAt e a .regret) (coordAt e b .regret) ≡ false
-  unfolding order
-  least a b h k (inl x) y =
-      ap₂ lt (reg-at a 0 h x) (reg-at b 0 k y)
-      ∙ not-true _ (split3 (lt (regF (at a h .s) 0) (regF (at b k .s) 2)) (not (lt (regF (at a h .s) 0) (regF (at b k .s) 0)))
-      (not (lt (regF (at a h .s) 2) (regF (at b k .s) 0))) (all-order (at a h .s) (at b k .s)) .1)
-  least a b h k (inr x) y =
-      ap₂ lt (reg-at a 2 h x) (reg-at b 0 k y)
-      ∙ not-true _ (split3 (lt (regF (at a h .s) 0) (regF (at b k .s) 2)) (not (lt (regF (at a h .s) 0) (regF (at b k .s) 0)))
-      (not (lt (regF (at a h .s) 2) (regF (at b k .s) 0))) (all-order (at a h .s) (at b k .s)) .2)
+  least a b h k (inl x) y = ap₂ lt (reg-at a 0 h x) (reg-at b 0 k y) ∙ order-at (at a h .s) (at b k .s) .1
+  least a b h k (inr x) y = ap₂ lt (reg-at a 2 h x) (reg-at b 0 k y) ∙ order-at (at a h .s) (at b k .s) .2
 
   -- where the largest regret is that of the offset 0, every offset is 0
   module _ (E : (j : ℕ) → (o j ≡ 0) ⊎ (o j ≡ 2)) where
@@ -297,10 +289,7 @@ module _ (ts : List Float) (p c : ℕ) (P0 : p < 2) (T0 : (j : ℕ) → j < 8 �
         two : (j : ℕ) → j < 0 + 2 → o 0 ≡ 0 → o 1 ≡ 0 → o j ≡ 0
         two zero l x y = x
         two (suc zero) l x y = y
-        two (suc (suc j)) l x y = absurd (none l)
-          where
-            none : suc (suc j) < 0 + 2 → ⊥
-            none l = omega arith
+        two (suc (suc j)) l x y = absurd (omega arith)
 
         go : (b : Bool) → lt (coordAt e 0 .regret) (coordAt e 1 .regret) ≡ b
             → AllZero (cond b (record { j0 = 1; j1 = 0 }) (record { j0 = 0; j1 = 1 })) (0 + 2)
@@ -388,10 +377,7 @@ module _ (ts : List Float) (p c : ℕ) (P0 : p < 2) (T0 : (j : ℕ) → j < 8 �
       parity : (p : ℕ) → p < 2 → (p ≡ 0) ⊎ (p ≡ 1)
       parity zero h = inl refl
       parity (suc zero) h = inr refl
-      parity (suc (suc p)) h = absurd (none h)
-        where
-          none : suc (suc p) < 2 → ⊥
-          none h = omega arith
+      parity (suc (suc p)) h = absurd (omega arith)
 
       go : (p ≡ 0) ⊎ (p ≡ 1) → Held to
       go (inl q) =

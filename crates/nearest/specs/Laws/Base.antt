@@ -3,31 +3,27 @@ use mathlib.Core.Path.{_≡_, refl, sym, ap, _∙_, subst}
 use mathlib.Core.List.{List}
 use mathlib.Core.Logic.{_≢_}
 use mathlib.Core.Bool.{Bool, true, false, cond}
-use Prim.Native.Nat.{ℕ, zero, suc, _+_, _-_, _*_, _/_, _%_, _^_, _≤_, _<_}
-use native.Mathlib.Nat.{le-refl, le-trans, le-of-eq, le-of-lt, mul-le-mul-left, mul-add, mod-lt, zero-lt-suc}
+use Prim.Native.Nat.{ℕ, zero, suc, _+_, _-_, _*_, _%_, _^_, _≤_, _<_}
+use native.Mathlib.Nat.{le-refl, le-trans, le-of-eq, le-of-lt, mul-le-mul-left, mul-add}
 use native.Mathlib.Omega.{arith}
 use native.Mathlib.Decide.{ℕ-discrete}
-use borrow.Author.Tests.{eq-eqb, ne-eqb}
+use borrow.Author.Tests.{eq-eqb}
 use lib.Dec.{T, eqb, eqb→eq, lit≤}
 use lib.ListN.{getD}
 use lib.IntN.{ℤ, ℤ-discrete, +ℤ-idr}
 use lib.Ieee.{Float, nan, lt}
-use Rattle.float.specs.Value.{posUnits, negUnits, U, one64}
+use Rattle.float.specs.Value.{posUnits, negUnits, U}
 use Rattle.float.specs.Laws.Near.{Near}
 use Rattle.float.specs.Laws.Compare.{lt-is, not-lt-is, Less, AtMost}
 use Rattle.float.specs.Laws.Rounding.{round-best}
-use Rattle.laws.specs.Lists.{tab-at}
 use Rattle.search.specs.declared.Coord.{Coord}
-use Rattle.search.specs.Record.{coordAt, noCoord, coordOf, slotK, row, shrinks, bitAt}
+use Rattle.search.specs.Record.{coordAt, slotK, row, shrinks}
 use Rattle.search.specs.Base.{slotOf, towardOf, parTo, worstTo}
 use Rattle.nearest.specs.Laws.Forms.{oddK, sumTo, parK}
 use Rattle.nearest.specs.Laws.Sums.{strong, stepped-up, sum-le, sum-same, sum-set, odd-le}
 use Rattle.nearest.specs.Laws.Ints.{gapK, far}
 use Rattle.nearest.specs.Laws.Coordinate.{Target, Rounds, E1, rounds}
-
--- a Boolean test of numbers, decided
-abbrev pub sq : ℕ → ℕ
-sq x = x * x
+use Rattle.nearest.specs.Laws.Shape.{oAt, o-lt, row-at, slot-at, slot-off, slot-plain}
 
 -- |t - o - 4 k| squared
 abbrev pub sqK : ℕ → ℤ → Float → ℕ
@@ -63,27 +59,21 @@ par-is e (suc n) = go (parTo e n) (sumTo (λ j. oddK (coordAt e j .k0)) n) (oddK
     go a b x h = omega arith
 
 module _ (ts : List Float) (p c : ℕ) (P0 : p < 2) (T0 : (j : ℕ) → j < 8 → Target (getD ts j nan)) where
-  abbrev pub tJ : ℕ → Float
+  abbrev tJ : ℕ → Float
   tJ j = getD ts j nan
 
-  abbrev pub oJ : ℕ → ℕ
-  oJ j = p + 2 * bitAt c j
+  abbrev oJ : ℕ → ℕ
+  oJ = oAt p c
 
   abbrev eR : List Coord
   eR = row ts p c 0
 
-  abbrev pub kJ : ℕ → ℤ
+  abbrev kJ : ℕ → ℤ
   kJ j = coordAt eR j .k0
 
-  pub row-at : (j : ℕ) → j < 8 → coordAt eR j ≡ coordOf (tJ j) one64 (oJ j)
-  unfolding row shrinks
-  row-at j h = tab-at Coord noCoord (λ j. coordOf (getD ts j nan) (getD shrinks 0 nan) (p + 2 * bitAt c j)) 8 j h
-
-  o-lt : (j : ℕ) → oJ j < 4
-  o-lt j = let a = mod-lt (c / 2 ^ j) (zero-lt-suc 1) in omega arith
-
   pub facts : (j : ℕ) → j < 8 → Rounds (tJ j) (oJ j) (coordAt eR j)
-  facts j h = subst (Rounds (tJ j) (oJ j)) (sym (row-at j h)) (rounds (tJ j) (oJ j) (T0 j h) (o-lt j))
+  unfolding shrinks
+  facts j h = subst (Rounds (tJ j) (oJ j)) (sym (row-at ts p c 0 j h)) (rounds (tJ j) (oJ j) (T0 j h) (o-lt p c j P0))
 
   -- distances of the roundings
   abbrev g0 : ℕ → ℕ
@@ -95,10 +85,7 @@ module _ (ts : List Float) (p c : ℕ) (P0 : p < 2) (T0 : (j : ℕ) → j < 8 �
   -- the largest regret is no smaller than any
   worst-most : (n : ℕ) → n ≤ 8 → (j : ℕ) → j < n → AtMost (reg j) (reg (worstTo eR n))
   unfolding worstTo
-  worst-most zero h j l = absurd (none l)
-    where
-      none : j < 0 → ⊥
-      none l = omega arith
+  worst-most zero h j l = absurd (omega arith)
   worst-most (suc n) h j l = go (worst-most n (omega arith) j) (ℕ-discrete n j) (lt (reg w) (reg n)) refl
     where
       w : ℕ
@@ -184,14 +171,11 @@ module _ (ts : List Float) (p c : ℕ) (P0 : p < 2) (T0 : (j : ℕ) → j < 8 �
       twice a b c h = omega arith
 
   -- the base for class r: its slots and its whole numbers
-  abbrev pub fixR : ℕ → ℕ
+  abbrev fixR : ℕ → ℕ
   fixR r = cond (eqb (parTo eR 8) r) 2 (towardOf (coordAt eR jW .dir))
 
   abbrev pub bK : ℕ → ℕ → ℤ
   bK r j = slotK (kJ j) (slotOf jW (fixR r) j)
-
-  slot2 : (k : ℤ) → slotK k 2 ≡ k
-  slot2 k = +ℤ-idr k
 
   abbrev Nearest : ℕ → (ℕ → ℤ) → (ℕ → ℤ) → Type 0
   Nearest w b k = sumTo (λ j. sqK (oJ j) (b j) (tJ j)) 8 ≤ sumTo (λ j. sqK (oJ j) (k j) (tJ j)) 8 + w
@@ -209,10 +193,10 @@ module _ (ts : List Float) (p c : ℕ) (P0 : p < 2) (T0 : (j : ℕ) → j < 8 �
   sK j = slotK (kJ j) (slotOf jW (towardOf (coordAt eR jW .dir)) j)
 
   stepped-at : sK jW ≡ slotK (kJ jW) (towardOf (coordAt eR jW .dir))
-  stepped-at = ap (λ (b : Bool). slotK (kJ jW) (cond b (towardOf (coordAt eR jW .dir)) 2)) (eq-eqb jW jW refl)
+  stepped-at = ap (slotK (kJ jW)) (slot-at jW (towardOf (coordAt eR jW .dir)))
 
   stepped-off : (j : ℕ) → j ≢ jW → sK j ≡ kJ j
-  stepped-off j d = ap (λ (b : Bool). slotK (kJ j) (cond b (towardOf (coordAt eR jW .dir)) 2)) (ne-eqb j jW d) ∙ slot2 (kJ j)
+  stepped-off j d = ap (slotK (kJ j)) (slot-off jW (towardOf (coordAt eR jW .dir)) j d) ∙ +ℤ-idr (kJ j)
 
   abbrev terms : (ℕ → ℤ) → ℕ → ℕ
   terms k j = sqK (oJ j) (k j) (tJ j)
@@ -252,11 +236,7 @@ module _ (ts : List Float) (p c : ℕ) (P0 : p < 2) (T0 : (j : ℕ) → j < 8 �
   base-best r k h = go (eqb (parTo eR 8) r) (eqb→eq (parTo eR 8) r) refl
     where
       off : (j : ℕ) → slotK (kJ j) (slotOf jW 2 j) ≡ kJ j
-      off j = at (eqb j jW)
-        where
-          at : (b : Bool) → slotK (kJ j) (cond b 2 2) ≡ kJ j
-          at true = slot2 (kJ j)
-          at false = slot2 (kJ j)
+      off j = ap (slotK (kJ j)) (slot-plain jW j) ∙ +ℤ-idr (kJ j)
 
       go : (b : Bool) → (T b → parTo eR 8 ≡ r) → eqb (parTo eR 8) r ≡ b
           → sumTo (λ j. sqK (oJ j) (slotK (kJ j) (slotOf jW (cond b 2 (towardOf (coordAt eR jW .dir))) j)) (tJ j)) 8

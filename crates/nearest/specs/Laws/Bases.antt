@@ -6,10 +6,8 @@ use mathlib.Core.List.{List}
 use Prim.Native.Nat.{ℕ, _+_, _*_, _≤_, _<_}
 use native.Mathlib.Nat.{le-refl, le-trans, le-of-eq}
 use native.Mathlib.Omega.{arith}
-use borrow.Author.Tests.{eq-eqb, ne-eqb}
 use lib.Dec.{eqb, lit≤}
-use lib.Signed.{ltZ}
-use lib.IntN.{ℤ, pos, natAbs}
+use lib.IntN.{ℤ, natAbs}
 use lib.Ieee.{Float, binary64, add, sub}
 use Rattle.float.specs.Value.{U}
 use Rattle.float.specs.Laws.Near.{Near, near-more}
@@ -22,7 +20,7 @@ use Rattle.search.specs.Entries.{rankAt}
 use Rattle.search.specs.declared.Now.{Now}
 use Rattle.search.specs.declared.Closed.{Closed}
 use Rattle.search.specs.Bound.{holds}
-use Rattle.nearest.specs.Laws.Keys.{markK, rank-forth, nib-ext, nib-lt}
+use Rattle.nearest.specs.Laws.Keys.{markK, rank-forth, nib-ext}
 use Rattle.nearest.specs.Laws.Forms.{sumTo, RowOf}
 use Rattle.nearest.specs.Laws.Sums.{sum-same}
 use Rattle.nearest.specs.Laws.Ints.{gap-is, gapK}
@@ -32,9 +30,9 @@ use Rattle.nearest.specs.Laws.Operations.{H}
 use Rattle.nearest.specs.Laws.Lattice.{Sec, Same, dist8, M}
 use Rattle.nearest.specs.Laws.Under.{Num, Under, near-num, near-under, under-near}
 use Rattle.nearest.specs.Laws.Entries.{ES, SoundB}
-use Rattle.nearest.specs.Laws.Shape.{oAt, o-lt, term-le, holds-le, weight-le, row-slots, row-d}
+use Rattle.nearest.specs.Laws.Shape.{oAt, o-lt, ranks-le, slot-at, slot-off, slot-plain, row-slots, row-d}
 use Rattle.nearest.specs.Laws.Candidate.{Cand, ET, tAt, sqV, cand-stands}
-use Rattle.nearest.specs.Laws.Rule.{slot-class, stepped-shape}
+use Rattle.nearest.specs.Laws.Rule.{mid-lt, toward-mid, slot-class, stepped-shape}
 use Rattle.nearest.specs.Laws.Steps.{Row, slot-small, now-cand, step-cand}
 
 -- a candidate that is a member section is a member
@@ -45,13 +43,9 @@ cand-holds ts p c c' P0 b B0 k cost key dist e C y R S =
     subst (λ (z : ℕ). holds b z key ≡ true) (sym cost-same)
     (subst (λ (z : ℕ). holds b (sumTo (λ j. sq (rankAt (R .key) j)) 8) z ≡ true) (sym key-same) (R .within))
   where
-    rho4 : (j : ℕ) → j < 8 → rankAt (R .key) j ≤ 4
-    rho4 j h = weight-le (rankAt (R .key) j) (nib-lt (R .key) j)
-        (le-trans (term-le (λ j. sq (rankAt (R .key) j)) 8 j h)
-        (le-trans (holds-le b (sumTo (λ j. sq (rankAt (R .key) j)) 8) (R .key) (R .within)) B0))
-
     rank-same : (j : ℕ) → j < 8 → markK (oAt p c j) (k j) ≡ rankAt (R .key) j
-    rank-same j h = ap markOf (S j h ∙ R .at j h) ∙ rank-forth (oAt p c' j) (rankAt (R .key) j) (o-lt p c' j P0) (rho4 j h)
+    rank-same j h = ap markOf (S j h ∙ R .at j h) ∙ rank-forth (oAt p c' j) (rankAt (R .key) j) (o-lt p c' j P0)
+        (ranks-le (rankAt (R .key)) b B0 _ (R .key) refl (R .within) j h)
 
     cost-same : cost ≡ sumTo (λ j. sq (rankAt (R .key) j)) 8
     cost-same = C .shape .cost-is ∙ sum-same (λ j. sq (markK (oAt p c j) (k j))) (λ j. sq (rankAt (R .key) j)) 8 (λ j h. ap sq (rank-same j h))
@@ -86,11 +80,7 @@ module _ (ts : List Float) (p c : ℕ) (P0 : p < 2) (T0 : (j : ℕ) → j < 8 �
   k2 j = slotK (kR j) 2
 
   both2 : (i : ℕ) → k22 i ≡ k2
-  both2 i = fun-ext (λ j. go j (eqb j i))
-    where
-      go : (j : ℕ) (b : Bool) → slotK (kR j) (cond b 2 2) ≡ slotK (kR j) 2
-      go j true = refl
-      go j false = refl
+  both2 i = fun-ext (λ j. ap (slotK (kR j)) (slot-plain i j))
 
   more : {k : ℕ → ℤ} {cost key : ℕ} {dist : Float} {e : ℕ} → e ≤ ES → Cand ts p c k cost key dist e → Cand ts p c k cost key dist ES
   more h C = record { small = C .small; shape = C .shape; near = near-more ES (C .near) h }
@@ -99,13 +89,6 @@ module _ (ts : List Float) (p c : ℕ) (P0 : p < 2) (T0 : (j : ℕ) → j < 8 �
   own-cand = subst (λ (k : ℕ → ℤ). Cand ts p c k (nowTo eR 0 2 8 .cost) (nowTo eR 0 2 8 .key) (nowTo eR 0 2 8 .dist) (8 * (ET + H)))
       (both2 0) (now-cand ts p c P0 T0 eR row0 0 2 (lit≤ tt))
 
-  to-lt : (d : ℤ) → towardOf d < 5
-  to-lt d = go (ltZ (pos 0) d)
-    where
-      go : (b : Bool) → cond b 3 1 < 5
-      go true = lit≤ tt
-      go false = lit≤ tt
-
   abbrev fW : ℕ
   fW = towardOf (coordAt eR jW .dir)
 
@@ -113,22 +96,22 @@ module _ (ts : List Float) (p c : ℕ) (P0 : p < 2) (T0 : (j : ℕ) → j < 8 �
   kT j = slotK (kR j) (slotOf jW fW j)
 
   at-W : kT jW ≡ slotK (kR jW) fW
-  at-W = ap (λ (b : Bool). slotK (kR jW) (cond b fW 2)) (eq-eqb jW jW refl)
+  at-W = ap (slotK (kR jW)) (slot-at jW fW)
 
   w8 : jW < 8
   w8 = worst-lt eR 8 (le-refl 8)
 
   kT-small : natAbs (kT jW) < 31
-  kT-small = subst (λ (z : ℤ). natAbs z < 31) (sym at-W) (slot-small (kR jW) fW (row0 .small jW w8) (to-lt (coordAt eR jW .dir)))
+  kT-small = subst (λ (z : ℤ). natAbs z < 31) (sym at-W) (slot-small (kR jW) fW (row0 .small jW w8) (mid-lt (toward-mid (coordAt eR jW .dir))))
 
   kT-off : (j : ℕ) → j < 8 → j ≢ jW → kT j ≡ k2 j
-  kT-off j h d = ap (λ (b : Bool). slotK (kR j) (cond b fW 2)) (ne-eqb j jW d)
+  kT-off j h d = ap (slotK (kR j)) (slot-off jW fW j d)
 
   stepped-cand : CandN kT (stepped (coordAt eR jW) (nowTo eR 0 2 8) jW)
   unfolding stepped
   stepped-cand =
       let n = nowTo eR 0 2 8 in
-      let f5 = to-lt (coordAt eR jW .dir) in
+      let f5 = mid-lt (toward-mid (coordAt eR jW .dir)) in
       let C = more (lit≤ tt) (step-cand ts p c P0 T0 k2 kT jW w8 kT-small kT-off (n .cost) (n .key) (n .dist) (8 * (ET + H)) (lit≤ tt) own-cand) in
       record {
         small = C .small;

@@ -4,7 +4,8 @@ use mathlib.Core.Path.{_≡_, refl, sym, ap, ap₂, _∙_, subst}
 use mathlib.Core.Logic.{_⊎_, inl, inr}
 use mathlib.Core.Bool.{Bool, true, false, cond}
 use Prim.Native.Nat.{ℕ, _+_, _*_, _^_, _≤_, _<_}
-use native.Mathlib.Nat.{le-refl, le-trans, le-of-eq, le-of-lt, lt-of-lt-of-le, lt-of-le-of-lt, mul-le-mul-right, add-mul, mul-assoc, zero-mul, lt-of-mul-lt-mul-right}
+use native.Mathlib.Nat.{le-refl, le-trans, le-of-eq, le-of-lt, lt-of-lt-of-le, lt-of-le-of-lt}
+use native.Mathlib.Nat.{mul-le-mul-right, add-mul, mul-assoc, zero-mul, lt-of-mul-lt-mul-right}
 use native.Mathlib.Omega.{arith}
 use lib.Dec.{T, lit≤}
 use lib.IntN.{ℤ, pos, negsuc, natAbs, _+ℤ_}
@@ -21,7 +22,7 @@ use Rattle.float.specs.Laws.Compare.{lt-is, not-lt-is, Less, AtMost}
 use Rattle.search.specs.declared.Coord.{Coord}
 use Rattle.search.specs.Record.{coordOf, coordFrom, slotK}
 use Rattle.search.specs.Base.{towardOf}
-use Rattle.nearest.specs.Laws.Ints.{gapK, gap-swap, add-parts, abs-parts}
+use Rattle.nearest.specs.Laws.Ints.{gapK, gap-swap, add-parts, abs-parts, one-part}
 
 -- the error of a rounding record, in units
 abbrev pub E1 : ℕ
@@ -58,10 +59,6 @@ k-small pk nk p n u e s l a b (inr z) =
     let r : (pk + nk) * u ≡ pk * u + nk * u = add-mul pk nk u in
     omega arith
 
-one-part : (k : ℤ) → (posPart k ≡ 0) ⊎ (negPart k ≡ 0)
-one-part (pos n) = inr refl
-one-part (negsuc n) = inl refl
-
 -- the distance by k in the other arrangement: t - o - 4 k
 gap-back : (o : ℕ) (k : ℤ) (t : Float) → gap (posUnits t + 0 + negPart k * U * 4) (negUnits t + o * U + posPart k * U * 4) ≡ gapK o k t
 gap-back o k t = go o (posPart k) (negPart k) U (posUnits t) (negUnits t)
@@ -72,6 +69,12 @@ gap-back o k t = go o (posPart k) (negPart k) U (posUnits t) (negUnits t)
         let b : 4 * pk * u ≡ 4 * (pk * u) = mul-assoc 4 pk u in
         let c : 4 * nk * u ≡ 4 * (nk * u) = mul-assoc 4 nk u in
         gap-swap (x + 0 + nk * u * 4) (y + o * u + pk * u * 4) ((o + 4 * pk) * u + y) (4 * nk * u + x) (omega arith)
+
+sum-lt : (a b c d : ℕ) → a < c → b ≤ d → a + b < c + d
+sum-lt a b c d h k = omega arith
+
+fold-e : (u e m : ℕ) → e + e ≤ m → 4 * u + (e + e) ≤ 4 * u + m
+fold-e u e m h = omega arith
 
 module _ (t : Float) (o : ℕ) (T0 : Target t) (O0 : o < 4) where
   abbrev pub oF : Float
@@ -85,9 +88,6 @@ module _ (t : Float) (o : ℕ) (T0 : Target t) (O0 : o < 4) where
 
   room1 : magUnits t + magUnits oF < 2 ^ 1080
   room1 = lt-of-lt-of-le (sum-lt (magUnits t) (magUnits oF) (2 ^ 1079) (3 * U) (T0 .small) o-mg) (lit≤ tt)
-    where
-      sum-lt : (a b c d : ℕ) → a < c → b ≤ d → a + b < c + d
-      sum-lt a b c d h k = omega arith
 
   abbrev pub dF : Float
   dF = sub binary64 t oF
@@ -101,9 +101,6 @@ module _ (t : Float) (o : ℕ) (T0 : Target t) (O0 : o < 4) where
       (mag-parts oF))) (le-trans (le-of-lt
       (lt-of-lt-of-le (sum-lt (magUnits t) (magUnits oF) (2 ^ 1079) (3 * U) (T0 .small) o-mg) (le-refl (2 ^ 1079 + 3 * U)))) (lit≤ tt))
     where
-      sum-lt : (a b c d : ℕ) → a < c → b ≤ d → a + b < c + d
-      sum-lt a b c d h k = omega arith
-
       regroup : (a b c d g h : ℕ) → g ≡ a + c → h ≡ d + b → a + b + (c + d) ≡ g + h
       regroup a b c d g h x y = omega arith
 
@@ -205,9 +202,6 @@ module _ (t : Float) (o : ℕ) (T0 : Target t) (O0 : o < 4) where
       up : (p n a b a1 b1 u e : ℕ) → a1 + b ≡ a + 4 * u + b1 → n + a ≤ p + b + e → gap (p + b) (n + a) ≤ 2 * u + e
           → gap (p + b1) (n + a1) + gap (p + b) (n + a) ≤ 4 * u + (e + e)
       up p n a b a1 b1 u e h k l = omega arith
-
-      fold-e : (u e m : ℕ) → e + e ≤ m → 4 * u + (e + e) ≤ 4 * u + m
-      fold-e u e m h = omega arith
   toward-of false h =
       let l : AtMost zF kF = not-lt-is kF zF (k-whole .fit) (z-near .fit) (k-whole .fin) (z-near .fin) h in
       let k1 = kZ +ℤ negsuc 0 in
@@ -234,9 +228,6 @@ module _ (t : Float) (o : ℕ) (T0 : Target t) (O0 : o < 4) where
       down : (p n a b a1 b1 u e : ℕ) → a1 + b + 4 * u ≡ a + b1 → p + b ≤ n + a + e → gap (p + b) (n + a) ≤ 2 * u + e
           → gap (p + b1) (n + a1) + gap (p + b) (n + a) ≤ 4 * u + (e + e)
       down p n a b a1 b1 u e h k l = omega arith
-
-      fold-e : (u e m : ℕ) → e + e ≤ m → 4 * u + (e + e) ≤ 4 * u + m
-      fold-e u e m h = omega arith
 
   rounds-from : Rounds t o (coordFrom t o zF kZ)
   rounds-from = record {

@@ -5,13 +5,13 @@ use mathlib.Core.Bool.{Bool, true, false, cond, _&&_}
 use mathlib.Core.List.{List, [], _∷_}
 use Prim.Native.Nat.{ℕ, zero, suc, _^_, _≤_, _<_}
 use native.Mathlib.Omega.{arith}
-use lib.Dec.{T}
 use lib.ListN.{getD, set}
 use lib.Ieee.{Float, lt}
 use Rattle.float.specs.Value.{U}
 use Rattle.float.specs.Laws.Near.{Near}
 use Rattle.search.specs.Tables.{Tables, endByte, classOf}
-use Rattle.search.specs.Entries.{Rule, Start, sectionAt, fallback, better, endResolve, midOf, midResolve, withBase, settle, endStart, midStart}
+use Rattle.search.specs.Entries.{Rule, Start, sectionAt, infeasible, fallback, better, endResolve, midOf, midResolve}
+use Rattle.search.specs.Entries.{withBase, settle, endStart, midStart}
 use Rattle.search.specs.Parity.{fixed, closed}
 use Rattle.search.specs.declared.Entry.{Entry}
 use Rattle.search.specs.Join.{noEntry, entAt}
@@ -20,7 +20,7 @@ use Rattle.search.specs.Solve.{infinity, solve}
 use Rattle.search.specs.Base.{baseBest, baseNow}
 use Rattle.search.specs.Record.{row}
 use Rattle.nearest.specs.Laws.Lattice.{Sec, dist8}
-use Rattle.nearest.specs.Laws.Under.{Num, Under, near-num, under-lt, under-not-lt}
+use Rattle.nearest.specs.Laws.Under.{Num, Under, clash, under-lt, under-not-lt}
 
 -- the error of a section's value, and the room for it
 abbrev pub ES : ℕ
@@ -53,55 +53,59 @@ pub record Mine (e : Entry) (B : ℕ) : Type 0 where
   pub exact : e .exact ≡ true
   pub under : Under (e .value) B
 
-pub final-num : {P : ℕ → Type 0} {p r : ℕ} {ts : List Float} (e : Entry) → Final P p r ts e → Num (e .value)
-final-num e (inl q) = inl q
-final-num e (inr a) = near-num (a .stands .near)
+-- ---- what the old entry and the one put in its place both have, the answer has
+-- the entry of a member that was met
+abbrev pub entryOf : Best → ℕ → Entry
+entryOf b c = record { value = b .d; exact = true; byte = c; key = b .key }
 
-no-way : false ≡ true → ⊥
-no-way q = subst T (sym q) tt
+module _ (Q : Entry → Type 0) where
+  pub better-keeps : (e : Entry) (b : Best) (c : ℕ) → Q e → (b .met ≡ true → Q (entryOf b c)) → Q (better e b c)
+  better-keeps e b c f s = go (b .met) (lt (b .d) (e .value)) s
+    where
+      go : (m l : Bool) → (m ≡ true → Q (entryOf b c)) → Q (cond (m && l) (entryOf b c) e)
+      go true true s = s refl
+      go true false s = f
+      go false l s = f
+
+  with-keeps : (s : Start) (b : Best) (c : ℕ) → Q (s .ent) → (b .met ≡ true → Q (entryOf b c)) → Q (withBase s b c .ent)
+  with-keeps s b c f q = go (b .met)
+    where
+      go : (m : Bool) → Q ((cond {A = Start} m (record { ent = better (s .ent) b c; lb = s .lb; loose = s .loose })
+          (record { ent = s .ent; lb = cond (lt (b .d) (s .lb)) (b .d) (s .lb); loose = true })) .ent)
+      go true = better-keeps (s .ent) b c f q
+      go false = f
+
+  pub closed-keeps : (e : Entry) (b : Bool) (new : Entry) → (e .exact ≡ true → Q e) → Q new → Q infeasible → Q (closed e b new)
+  closed-keeps e b new s f n = go (e .exact) s
+    where
+      at : (b : Bool) → Q (cond b new infeasible)
+      at true = f
+      at false = n
+
+      go : (m : Bool) → (m ≡ true → Q e) → Q (cond m e (cond b new infeasible))
+      go true k = k refl
+      go false k = at b
 
 -- ---- an exact entry is infinite or stands for a section, whatever is asked of its byte
 module _ (P : ℕ → Type 0) (p r : ℕ) (ts : List Float) where
   better-final : (e : Entry) (b : Best) (c : ℕ) → P c → Final P p r ts e → SoundB p c r ts b → Final P p r ts (better e b c)
-  better-final e b c h f s = go (b .met) (lt (b .d) (e .value)) s
-    where
-      go : (m l : Bool) → (m ≡ true → Stands p c r ts (b .key) (b .d))
-          → Final P p r ts (cond (m && l) (record { value = b .d; exact = true; byte = c; key = b .key }) e)
-      go true true s = inr (record { byte = h; stands = s refl })
-      go true false s = f
-      go false l s = f
+  better-final e b c h f s = better-keeps (Final P p r ts) e b c f (λ q. inr (record { byte = h; stands = s q }))
 
   with-final : (s : Start) (b : Best) (c : ℕ) → P c → Final P p r ts (s .ent) → SoundB p c r ts b → Final P p r ts (withBase s b c .ent)
-  with-final s b c h f q = go (b .met)
-    where
-      go : (m : Bool) → Final P p r ts
-          ((cond {A = Start} m (record { ent = better (s .ent) b c; lb = s .lb; loose = s .loose })
-          (record { ent = s .ent; lb = cond (lt (b .d) (s .lb)) (b .d) (s .lb); loose = true })) .ent)
-      go true = better-final (s .ent) b c h f q
-      go false = f
+  with-final s b c h f i = with-keeps (Final P p r ts) s b c f (λ q. inr (record { byte = h; stands = i q }))
 
   settle-sound : (s : Start) → Final P p r ts (s .ent) → Sound P p r ts (settle s)
   settle-sound s f = go ((s .loose) && (lt (s .lb) (s .ent .value)))
     where
       go : (m : Bool) → Sound P p r ts (cond m (record { value = s .lb; exact = false; byte = s .ent .byte; key = s .ent .key }) (s .ent))
-      go true q = absurd (no-way q)
+      go true q = absurd (clash q refl)
       go false q = f
 
   pub closed-final : (e : Entry) (b : Bool) (new : Entry) → Sound P p r ts e → Final P p r ts new → Final P p r ts (closed e b new)
-  closed-final e b new s f = go (e .exact) s
-    where
-      go : (m : Bool) → (m ≡ true → Final P p r ts e)
-          → Final P p r ts (cond m e (cond b new (record { value = infinity; exact = true; byte = 0; key = 0 })))
-      go true k = k refl
-      go false k = at b
-        where
-          at : (b : Bool) → Final P p r ts (cond b new (record { value = infinity; exact = true; byte = 0; key = 0 }))
-          at true = f
-          at false = inl refl
+  closed-final e b new s f = closed-keeps (Final P p r ts) e b new s f (inl refl)
 
 pub closed-mine : (e : Entry) (b : Bool) (new : Entry) {B : ℕ} → Mine e B → Mine (closed e b new) B
-closed-mine e b new {B} m = subst
-    (λ (x : Bool). Mine (cond x e (cond b new (record { value = infinity; exact = true; byte = 0; key = 0 }))) B) (sym (m .exact)) m
+closed-mine e b new {B} m = subst (λ (x : Bool). Mine (cond x e (cond b new infeasible)) B) (sym (m .exact)) m
 
 -- ---- an end state
 abbrev pub EndByte : Tables → ℕ → ℕ → ℕ → Type 0
@@ -161,34 +165,25 @@ pub record Open (s : Start) (B : ℕ) : Type 0 where
   pub high : Under (s .lb) B → ⊥
 
 better-exact : (e : Entry) (b : Best) (c : ℕ) → e .exact ≡ true → better e b c .exact ≡ true
-better-exact e b c h = go ((b .met) && (lt (b .d) (e .value)))
-  where
-    go : (m : Bool) → (cond m (record { value = b .d; exact = true; byte = c; key = b .key }) e) .exact ≡ true
-    go true = refl
-    go false = h
+better-exact e b c h = better-keeps (λ e. e .exact ≡ true) e b c h (λ q. refl)
 
 better-num : (e : Entry) (b : Best) (c : ℕ) → Num (e .value) → Num (b .d) → Num (better e b c .value)
-better-num e b c h k = go ((b .met) && (lt (b .d) (e .value)))
-  where
-    go : (m : Bool) → Num ((cond m (record { value = b .d; exact = true; byte = c; key = b .key }) e) .value)
-    go true = k
-    go false = h
+better-num e b c h k = better-keeps (λ e. Num (e .value)) e b c h (λ q. k)
 
 -- a cheap value stays cheap; a cheap member makes it cheap
 better-old : (e : Entry) (b : Best) (c : ℕ) {B : ℕ} → Under (e .value) B → Num (b .d) → Under (better e b c .value) B
 better-old e b c {B} u n = go (b .met) (lt (b .d) (e .value)) refl
   where
-    go : (m l : Bool) → lt (b .d) (e .value) ≡ l → Under ((cond (m && l) (record { value = b .d; exact = true; byte = c; key = b .key }) e) .value) B
+    go : (m l : Bool) → lt (b .d) (e .value) ≡ l → Under ((cond (m && l) (entryOf b c) e) .value) B
     go true true q = under-lt (b .d) (e .value) n u q
     go true false q = u
     go false l q = u
 
 better-new : (e : Entry) (b : Best) (c : ℕ) {B : ℕ} → Num (e .value) → b .met ≡ true → Under (b .d) B → Under (better e b c .value) B
-better-new e b c {B} n m u = subst
-    (λ (x : Bool). Under ((cond (x && (lt (b .d) (e .value))) (record { value = b .d; exact = true; byte = c; key = b .key }) e) .value) B)
-    (sym m) (go (lt (b .d) (e .value)) refl)
+better-new e b c {B} n m u =
+    subst (λ (x : Bool). Under ((cond (x && lt (b .d) (e .value)) (entryOf b c) e) .value) B) (sym m) (go (lt (b .d) (e .value)) refl)
   where
-    go : (l : Bool) → lt (b .d) (e .value) ≡ l → Under ((cond l (record { value = b .d; exact = true; byte = c; key = b .key }) e) .value) B
+    go : (l : Bool) → lt (b .d) (e .value) ≡ l → Under ((cond l (entryOf b c) e) .value) B
     go true q = u
     go false q = under-not-lt (b .d) (e .value) u n q
 
@@ -206,7 +201,7 @@ open-base s b c {B} o n k = go (b .met) k
         at false = o .lb-num
 
         hi : (l : Bool) → Under (cond l (b .d) (s .lb)) B → ⊥
-        hi true u = no-way (k u)
+        hi true u = clash (k u) refl
         hi false u = o .high u
 
 cheap-old : (s : Start) (b : Best) (c : ℕ) {B : ℕ} → Under (s .ent .value) B → Num (b .d) → Under (withBase s b c .ent .value) B
@@ -256,10 +251,7 @@ module _ (g : Tables) (ts : List Float) (kind p r st : ℕ) (B : ℕ) (f : Num (
   cheap zero h u = cheap-old one (baseAt g ts kind p r st 1) (endByte g kind st 1)
       (cheap-new (startAt g ts kind p r st) (baseAt g ts kind p r st 0) (endByte g kind st 0) f (k 0 h u) u) (n 1 (omega arith))
   cheap (suc zero) h u = cheap-new one (baseAt g ts kind p r st 1) (endByte g kind st 1) (o1 .num) (k 1 h u) u
-  cheap (suc (suc b)) h u = absurd (none h)
-    where
-      none : suc (suc b) < 2 → ⊥
-      none h = omega arith
+  cheap (suc (suc b)) h u = absurd (omega arith)
 
   -- y's entry at an end starts exact and cheap
   pub start-mine : (b : ℕ) → b < 2 → Under (baseAt g ts kind p r st b .d) B → Mine (endStart g ts kind p r st) B
@@ -275,9 +267,7 @@ module _ (g : Tables) (u : Rule) (ts : List Float) (p : ℕ) (F : MidFacts g u t
   mid-final : (b : Best) → SoundB p c d ts b → Final Byte p d ts (midOf b c)
   mid-final b s = go (b .met) s
     where
-      go : (m : Bool) → (m ≡ true → Stands p c d ts (b .key) (b .d))
-          → Final Byte p d ts (cond m (record { value = b .d; exact = true; byte = c; key = b .key })
-          (record { value = infinity; exact = true; byte = 0; key = 0 }))
+      go : (m : Bool) → (m ≡ true → Stands p c d ts (b .key) (b .d)) → Final Byte p d ts (cond m (entryOf b c) infeasible)
       go true k = inr (record { byte = refl; stands = k refl })
       go false k = inl refl
 
@@ -329,5 +319,5 @@ fixed-mine e i new j {B} m = go (entAt e i .exact) refl
       where
         at : ((i ≡ j) × (getD (set e i new) j noEntry ≡ new)) ⊎ (getD (set e i new) j noEntry ≡ getD e j noEntry)
             → Mine (getD (set e i new) j noEntry) B
-        at (inl k) = absurd (no-way (sym q ∙ ap (λ (x : ℕ). entAt e x .exact) (k .0) ∙ m .exact))
+        at (inl k) = absurd (clash (ap (λ (x : ℕ). entAt e x .exact) (k .0) ∙ m .exact) q)
         at (inr k) = subst (λ (x : Entry). Mine x B) (sym k) m

@@ -1,5 +1,5 @@
--- What the proof speaks of besides the lattice by sections (Lattice, Sections): sums by index, and sections that have a packed row. Link says
--- that a point that has a word by document 01 has such rows. Definitions only.
+-- What the proof speaks of besides the lattice by sections (Lattice, Sections): sums by index, sections that have a packed row, settings
+-- of the shrinks. Link says that a point that has a word by document 01 has such rows, Searched that every setting is one. Definitions only.
 use mathlib.Core.Path.{_≡_}
 use mathlib.Core.Bool.{true}
 use mathlib.Core.List.{List}

@@ -56,6 +56,10 @@ pub abs-parts : (k : ℤ) → natAbs k ≡ posPart k + negPart k
 abs-parts (pos n) = omega arith
 abs-parts (negsuc n) = omega arith
 
+pub one-part : (k : ℤ) → (posPart k ≡ 0) ⊎ (negPart k ≡ 0)
+one-part (pos n) = inr refl
+one-part (negsuc n) = inl refl
+
 -- two numbers with the same difference of parts are the same
 pub apart-parts : (k l : ℤ) → k ≢ l → posPart k + negPart l ≢ posPart l + negPart k
 apart-parts (pos a) (pos b) d e = d (ap pos (tidy e))

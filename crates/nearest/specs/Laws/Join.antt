@@ -55,10 +55,7 @@ module _ (g : Tables) (p : ℕ) (s : Sides) (N : (i n : ℕ) → i < 128 → n <
   row-new : (i : ℕ) → i < 128 → (w : Way) {B : ℕ} → Num (w .cost) → (j : ℕ) → Under (costAt g p s i j) B → (n : ℕ) → n ≤ 32 → j < n
       → Under (rowTo g p s i w n .cost) B
   unfolding rowTo
-  row-new i l w m j u zero h k = absurd (none k)
-    where
-      none : j < 0 → ⊥
-      none k = omega arith
+  row-new i l w m j u zero h k = absurd (omega arith)
   row-new i l w {B} m j u (suc n) h k = go (λ q. row-new i l w m j u n (omega arith) q) (ℕ-discrete n j)
     where
       go : (j < n → Under (rowTo g p s i w n .cost) B) → Dec (n ≡ j) → Under (keep (wayAt g p s i n) (rowTo g p s i w n) .cost) B
@@ -97,10 +94,7 @@ module _ (g : Tables) (p : ℕ) (s : Sides) (N : (i n : ℕ) → i < 128 → n <
   pub join-under : (i j : ℕ) → j < 32 → {B : ℕ} → Under (entAt (s .e1) i .value) B → Under (costAt g p s i j) B → (n : ℕ) → n ≤ 128 → i < n
       → Under (joinTo g p s n .cost) B
   unfolding joinTo
-  join-under i j k u c zero h l = absurd (none l)
-    where
-      none : i < 0 → ⊥
-      none l = omega arith
+  join-under i j k u c zero h l = absurd (omega arith)
   join-under i j k {B} u c (suc n) h l =
       go (λ q. join-under i j k u c n (omega arith) q) (ℕ-discrete n i) (le (joinTo g p s n .cost) (entAt (s .e1) n .value)) refl
     where

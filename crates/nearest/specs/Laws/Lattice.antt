@@ -67,69 +67,41 @@ module _ (g : Tables) (t : Targets) (ps : List ℕ) (p : ℕ) (P0 : List·Memᴰ
   le3 : (a b c d m : ℕ) → c ≤ d + m → a + b + c ≤ a + b + d + m
   le3 a b c d m h = omega arith
 
+  -- a point of y's branch and classes, by its first and last bit and its sections
+  swapped : (b d : ℕ) → b < 2 → d < 2 → {z1 z2 z3 : ℕ → ℤ} → Sec p (getD (g .pre) (2 * Y .s8 + b) 0) (Y .r1) z1
+      → Sec p (getD (g .mid) (Y .s8 * 16 + Y .b2) 0) (Y .r2) z2
+      → Sec p (getD (g .suf) (2 * getD (g .nxt) (Y .s8 * 16 + Y .b2) 0 + d) 0) ((p + Y .r1 + Y .r2) % 2) z3 → Point g p z1 z2 z3
+  swapped b d h l s1 s2 s3 = record {
+    s8 = Y .s8;
+    b1 = b;
+    b2 = Y .b2;
+    b3 = d;
+    r1 = Y .r1;
+    r2 = Y .r2;
+    s8-lt = Y .s8-lt;
+    b1-lt = h;
+    b2-lt = Y .b2-lt;
+    b3-lt = l;
+    r1-lt = Y .r1-lt;
+    r2-lt = Y .r2-lt;
+    sec1 = s1;
+    sec2 = s2;
+    sec3 = s3;
+  }
+
   pub own1 : (b : ℕ) → b < 2 → (s : ℕ → ℤ) → Sec p (getD (g .pre) (2 * Y .s8 + b) 0) (Y .r1) s → dist8 s (t .t1) ≤ dist8 y1 (t .t1) + M → Same s y1
-  own1 b h s a l = H p P0 s y2 y3
-      (record {
-        s8 = Y .s8;
-        b1 = b;
-        b2 = Y .b2;
-        b3 = Y .b3;
-        r1 = Y .r1;
-        r2 = Y .r2;
-        s8-lt = Y .s8-lt;
-        b1-lt = h;
-        b2-lt = Y .b2-lt;
-        b3-lt =
-            Y .b3-lt;
-        r1-lt = Y .r1-lt;
-        r2-lt = Y .r2-lt;
-        sec1 = a;
-        sec2 = Y .sec2;
-        sec3 = Y .sec3;
-      })
+  own1 b h s a l =
+      H p P0 s y2 y3 (swapped b (Y .b3) h (Y .b3-lt) a (Y .sec2) (Y .sec3))
       (le1 (dist8 s (t .t1)) (dist8 y2 (t .t2)) (dist8 y3 (t .t3)) (dist8 y1 (t .t1)) M l) .0
 
   pub own2 : (s : ℕ → ℤ) → Sec p (getD (g .mid) (Y .s8 * 16 + Y .b2) 0) (Y .r2) s → dist8 s (t .t2) ≤ dist8 y2 (t .t2) + M → Same s y2
-  own2 s a l = H p P0 y1 s y3
-      (record {
-        s8 = Y .s8;
-        b1 = Y .b1;
-        b2 = Y .b2;
-        b3 = Y .b3;
-        r1 = Y .r1;
-        r2 = Y .r2;
-        s8-lt = Y .s8-lt;
-        b1-lt = Y .b1-lt;
-        b2-lt =
-            Y .b2-lt;
-        b3-lt = Y .b3-lt;
-        r1-lt = Y .r1-lt;
-        r2-lt = Y .r2-lt;
-        sec1 = Y .sec1;
-        sec2 = a;
-        sec3 = Y .sec3;
-      })
+  own2 s a l =
+      H p P0 y1 s y3 (swapped (Y .b1) (Y .b3) (Y .b1-lt) (Y .b3-lt) (Y .sec1) a (Y .sec3))
       (le2 (dist8 y1 (t .t1)) (dist8 s (t .t2)) (dist8 y3 (t .t3)) (dist8 y2 (t .t2)) M l) .1
 
   pub own3 : (b : ℕ) → b < 2 → (s : ℕ → ℤ)
       → Sec p (getD (g .suf) (2 * getD (g .nxt) (Y .s8 * 16 + Y .b2) 0 + b) 0) ((p + Y .r1 + Y .r2) % 2) s
       → dist8 s (t .t3) ≤ dist8 y3 (t .t3) + M → Same s y3
-  own3 b h s a l = H p P0 y1 y2 s
-      (record {
-        s8 = Y .s8;
-        b1 = Y .b1;
-        b2 = Y .b2;
-        b3 = b;
-        r1 = Y .r1;
-        r2 = Y .r2;
-        s8-lt = Y .s8-lt;
-        b1-lt = Y .b1-lt;
-        b2-lt = Y .b2-lt;
-        b3-lt = h;
-        r1-lt = Y .r1-lt;
-        r2-lt = Y .r2-lt;
-        sec1 = Y .sec1;
-        sec2 = Y .sec2;
-        sec3 = a;
-      })
+  own3 b h s a l =
+      H p P0 y1 y2 s (swapped (Y .b1) b (Y .b1-lt) h (Y .sec1) (Y .sec2) a)
       (le3 (dist8 y1 (t .t1)) (dist8 y2 (t .t2)) (dist8 s (t .t3)) (dist8 y3 (t .t3)) M l) .2

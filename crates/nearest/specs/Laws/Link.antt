@@ -10,7 +10,7 @@ use lib.Dec.{T}
 use lib.ListN.{getD, length, drop}
 use lib.Seq.{getD-take, getD-drop}
 use lib.IntN.{ℤ, pos}
-use Rattle.laws.specs.Whole.{modZ, divZ, mod2-lt, mod4-lt}
+use Rattle.laws.specs.Whole.{modZ, mod2-lt}
 use Rattle.laws.specs.Bits.{weight}
 use Rattle.rank.specs.Coord.{parityOf, bitOf, kOf}
 use Rattle.rank.specs.Laws.Coord.{residue, halves}
@@ -31,7 +31,7 @@ use Rattle.search.specs.Tables.{tables, classOf}
 use Rattle.search.specs.Laws.Tables.{mixed-is}
 use Rattle.nearest.specs.Laws.Forms.{sumTo, parK, at24, RowOf}
 use Rattle.nearest.specs.Laws.Sums.{sum-same}
-use Rattle.nearest.specs.Laws.Keys.{member-one, member-self}
+use Rattle.nearest.specs.Laws.Keys.{member-self, member-is}
 use Rattle.nearest.specs.Laws.Premises.{HasRows}
 use Rattle.nearest.specs.Laws.Sections.{pathOf, LeechTrio, point-of, bit-a, bit-b, bit-c}
 use Rattle.nearest.specs.Laws.TableFacts.{prefix-read, middle-read, next-read, suffix-read, tables-bytes}
@@ -212,10 +212,6 @@ module _ (y : List ℤ) (W : HasWord y) where
       }
 
 -- ---- and back: what the proof works with is, in natural order, a lattice point of document 01
--- o + 4k leaves o, and its quotient is k
-member-is : (o : ℕ) (k : ℤ) → o < 4 → (o ≡ modZ (member o k) 4) × (k ≡ divZ (member o k) 4)
-member-is o k h = member-one o (modZ (member o k) 4) k (divZ (member o k) 4) h (mod4-lt (member o k)) (member-self (member o k))
-
 module _ (z : List ℤ) (L : LeechTrio tables z) where
   abbrev bit : ℕ → ℕ
   bit j = bitAt (pathOf tables (L .x)) j

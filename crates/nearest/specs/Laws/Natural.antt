@@ -1,4 +1,4 @@
--- The theorem at the constant tables and in natural order.
+-- The theorem at the constant tables and in natural order, of the lattice and the points that have a word. Assumes nothing.
 use mathlib.Core.Path.{_≡_, refl, sym, ap, ap₂, _∙_, subst}
 use mathlib.Core.Logic.{_≢_}
 use mathlib.Core.Bool.{true}
@@ -15,7 +15,7 @@ use Rattle.laws.specs.Lists.{tab-at, tab-length}
 use Rattle.float.specs.Distance.{coordGap, sqDist, margin}
 use Rattle.trellis.specs.Trio.{order}
 use Rattle.trellis.specs.Laws.Trio.{trio-fits}
-use Rattle.tetra.specs.Lattice.{trio}
+use Rattle.tetra.specs.Lattice.{trio, LatticePoint, HasWord}
 use Rattle.tetra.specs.Tetra.{natural}
 use Rattle.tetra.specs.Laws.Orders.{trio-at, natural-length, trio-natural}
 use Rattle.search.specs.declared.Winner.{Winner}
@@ -25,9 +25,9 @@ use Rattle.search.specs.Parity.{search}
 use Rattle.search.specs.Block.{coordinate, trioOf, targetsOf, pointAt, place, pointFrom}
 use Rattle.nearest.specs.Laws.Forms.{sumTo, RuleOk, at24}
 use Rattle.nearest.specs.Laws.Sums.{sum-same, sum-front}
-use Rattle.nearest.specs.Laws.Premises.{HasRows}
-use Rattle.nearest.specs.Laws.Sections.{LeechTrio, sqDist24, point-of, point-at, is-found}
+use Rattle.nearest.specs.Laws.Sections.{LeechTrio, sqDist24, point-at, is-found}
 use Rattle.nearest.specs.Laws.TableFacts.{tables-bytes, tables-good, tables-more}
+use Rattle.nearest.specs.Laws.Link.{leech, leech-parity, has-rows, lattice, lattice-parity}
 
 -- ---- the exact distance, coordinate by coordinate
 abbrev sqc : ℤ → Float → ℕ
@@ -36,10 +36,7 @@ sqc v x = coordGap v x * coordGap v x
 pub dist-sum : (z : List ℤ) (t : List Float) → length z ≡ length t → sqDist z t ≡ sumTo (λ j. sqc (at24 z j) (getD t j nan)) (length z)
 unfolding sqDist sumTo
 dist-sum [] t e = refl
-dist-sum (v ∷ z) [] e = absurd (none e)
-  where
-    none : suc (length z) ≡ 0 → ⊥
-    none e = omega arith
+dist-sum (v ∷ z) [] e = absurd (omega arith)
 dist-sum (v ∷ z) (x ∷ t) e =
     ap (λ (n : ℕ). sqc v x + n) (dist-sum z t (down e)) ∙ sum-front (λ j. sqc (at24 (v ∷ z) j) (getD (x ∷ t) j nan)) (length z)
   where
@@ -62,9 +59,8 @@ module _ (t : List Float) (T24 : length t ≡ 24) where
 -- t is the target, ps the parities searched, y the point, u the setting
 module _ (t : List Float) (len : length t ≡ 24) (fit : (j : ℕ) → j < 24 → T (fits binary64 (getD t j nan)))
     (fin : (j : ℕ) → j < 24 → T (finite (getD t j nan))) (ps : List ℕ) (PS : (q : ℕ) → List·Memᴰ q ps → q < 2)
-    (y : List ℤ) (size : length y ≡ 24) (L : LeechTrio tables (trio y)) (I0 : List·Memᴰ (L .p) ps)
-    (W : HasRows tables (L .p) (point-of tables tables-bytes (trio y) L))
-    (H : (z : List ℤ) (Z : LeechTrio tables z) → List·Memᴰ (Z .p) ps → natural z ≢ y → sqDist y t + margin < sqDist (natural z) t)
+    (y : List ℤ) (W : HasWord y) (I0 : List·Memᴰ (W .point .p) ps)
+    (H : (z : List ℤ) (Z : LatticePoint z) → List·Memᴰ (Z .p) ps → z ≢ y → sqDist y t + margin < sqDist z t)
     (u : Rule) (U0 : RuleOk u) where
   t-at : (j : ℕ) → j < 24 → getD (trioOf t) j nan ≡ getD t (coordinate j) nan
   t-at j h = tab-at Float nan (λ j. getD t (coordinate j) nan) 24 j h
@@ -75,30 +71,40 @@ module _ (t : List Float) (len : length t ≡ 24) (fit : (j : ℕ) → j < 24 �
   fin' : (j : ℕ) → j < 24 → T (finite (getD (trioOf t) j nan))
   fin' j h = subst (λ (x : Float). T (finite x)) (sym (t-at j h)) (fin (coordinate j) (trio-fits j h .order-lt))
 
+  searched : List·Memᴰ (leech y (W .point) .p) ps
+  searched = subst (λ (q : ℕ). List·Memᴰ q ps) (sym (leech-parity y (W .point))) I0
+
   far : (z : List ℤ) (Z : LeechTrio tables z) → List·Memᴰ (Z .p) ps → z ≢ trio y
       → sqDist24 (trio y) (trioOf t) + margin < sqDist24 z (trioOf t)
   far z Z m d =
-      subst (λ (a : ℕ). a + margin < sqDist24 z (trioOf t)) (dist-trio t len y (trio y) size (λ j h. sym (trio-at y j h)))
+      subst (λ (a : ℕ). a + margin < sqDist24 z (trioOf t)) (dist-trio t len y (trio y) (W .point .size) (λ j h. sym (trio-at y j h)))
       (subst (λ (b : ℕ). sqDist y t + margin < b)
       (dist-trio t len (natural z) z (natural-length z)
       (λ j h. sym (trio-at (natural z) j h) ∙ ap (λ (l : List ℤ). at24 l j) (trio-natural z (Z .len))))
-      (H z Z m (λ e. d (sym (trio-natural z (Z .len)) ∙ ap trio e))))
+      (H (natural z) (lattice z Z) (subst (λ (q : ℕ). List·Memᴰ q ps) (sym (lattice-parity z Z)) m)
+      (λ e. d (sym (trio-natural z (Z .len)) ∙ ap trio e))))
 
   abbrev answer : Winner
   answer = search tables u (targetsOf t) ps
 
   at : (j : ℕ) → j < 24 → pointAt answer j ≡ at24 (trio y) j
-  at = point-at tables tables-bytes (trioOf t) ps PS (trio y) far tables-good tables-more u U0 L I0 W fit' fin'
+  at =
+      point-at tables tables-bytes (trioOf t) ps PS (trio y) far tables-good tables-more u U0 (leech y (W .point)) searched (has-rows y W)
+      fit' fin'
 
-  pub is-point : pointFrom answer ≡ y
+  is-point : pointFrom answer ≡ y
   is-point =
-      let size' = tab-length ℤ (λ i. pointAt answer (place i)) 24 in
-      ext-getD (pos 0) (pointFrom answer) y (size' ∙ sym size)
+      let size = tab-length ℤ (λ i. pointAt answer (place i)) 24 in
+      ext-getD (pos 0) (pointFrom answer) y (size ∙ sym (W .point .size))
       (λ i h.
-      let l : i < 24 = subst (λ (n : ℕ). i < n) size' h in
+      let l : i < 24 = subst (λ (n : ℕ). i < n) size h in
       let f = trio-fits i l in
       tab-at ℤ (pos 0) (λ i. pointAt answer (place i)) 24 i l ∙ at (place i) (f .place-lt) ∙ trio-at y (place i) (f .place-lt)
       ∙ ap (at24 y) (f .order-place))
 
-  pub is-answered : answer .found ≡ true
-  is-answered = is-found tables tables-bytes (trioOf t) ps PS (trio y) far tables-good tables-more u U0 L I0 W fit' fin'
+  pub answered : (answer .found ≡ true) × (pointFrom answer ≡ y)
+  answered = (
+    is-found tables tables-bytes (trioOf t) ps PS (trio y) far tables-good tables-more u U0 (leech y (W .point)) searched (has-rows y W)
+        fit' fin',
+    is-point,
+  )

@@ -5,7 +5,7 @@ use mathlib.Core.Logic.{_⊎_, inl, inr}
 use mathlib.Core.Bool.{true, _&&_}
 use mathlib.Core.List.{List, [], _∷_}
 use Prim.Native.Nat.{ℕ, zero, suc, _+_, _*_, _/_, _%_, _^_, _≤_, _<_, suc-le-suc}
-use native.Mathlib.Nat.{zero-lt-suc, not-suc-le-zero, le-of-suc-le-suc}
+use native.Mathlib.Nat.{zero-lt-suc, not-suc-le-zero, le-of-suc-le-suc, mod-eq-of-lt}
 use native.Mathlib.Omega.{arith}
 use lib.Dec.{T, ltb, eqb, leb, lt→ltb, le→leb, lit≤}
 use lib.ListN.{getD, length, length-map}
@@ -18,15 +18,15 @@ use Rattle.laws.specs.Bits.{weight}
 use Rattle.rank.specs.Coord.{bitOf, kOf, rankOf, valOf}
 use Rattle.rank.specs.Vector.{ranksBelow, sq, cost, class, kZero, pack, unpack, within, boundCost, boundCut}
 use Rattle.rank.specs.Laws.Vector.{rank-first, rank-rest, unpack-at, unpack-pack, below-up}
-use Rattle.rank.specs.Section.{uniform, bitsOf, ranksOf, kSum}
-use Rattle.rank.specs.Laws.Section.{point-back, k-sum}
+use Rattle.rank.specs.Section.{uniform, pointAt, bitsOf, ranksOf, kSum}
+use Rattle.rank.specs.Laws.Section.{point-uniform, point-bits, point-ranks, point-length, point-back, k-sum}
 use Rattle.tetra.specs.Laws.Point.{point-at, even-times, drop-even}
 use Rattle.search.specs.declared.Closed.{Closed}
 use Rattle.search.specs.Record.{bitAt}
 use Rattle.search.specs.Bound.{lexNum, lexOf, holds}
 use Rattle.search.specs.Tables.{tables, classOf}
 use Rattle.search.specs.Laws.Tables.{class0-is, class1-is}
-use Rattle.search.specs.Entries.{rankAt}
+use Rattle.search.specs.Entries.{rankAt, sectionAt}
 use Rattle.nearest.specs.Laws.Forms.{sumTo, parK, RowOf}
 use Rattle.nearest.specs.Laws.Sums.{sum-same, sum-front}
 
@@ -78,10 +78,10 @@ module _ (v : List ℕ) (e : length v ≡ 8) (s : T (ranksBelow 16 v)) where
       sum-same (λ j. sq (rankAt (pack v) j)) (λ j. sq (getD v j 0)) 8 (λ j h. ap sq (packed-at j h))
       ∙ ap (sumTo (λ j. sq (getD v j 0))) (sym e) ∙ sym (cost-sum v)
 
-  packed-lt : pack v < 2 ^ 32
+  pub packed-lt : pack v < 2 ^ 32
   packed-lt = subst (λ (n : ℕ). pack v < 2 ^ (4 * n)) e (pack-lt v s)
 
-  packed-holds : (b : Closed) (C : ℕ) (cut : List ℕ) → b ≡ record { cost = C; cut = lexNum 0 cut } → length cut ≡ 8 → T (ranksBelow 16 cut)
+  pub packed-holds : (b : Closed) (C : ℕ) (cut : List ℕ) → b ≡ record { cost = C; cut = lexNum 0 cut } → length cut ≡ 8 → T (ranksBelow 16 cut)
       → T (within C cut v) → holds b (sumTo (λ j. sq (rankAt (pack v) j)) 8) (pack v) ≡ true
   unfolding lexOf
   packed-holds b C cut q l t w =
@@ -197,3 +197,14 @@ module _ (p c : ℕ) (t : List ℤ) (e : length t ≡ 8) (u : T (uniform p t)) (
       ∙ sym (k-sum-is t) ∙ k-sum p t u s
       ∙ ap₂ (λ (m b : ℕ). (kZero (ranksOf t) + p * weight m b) % 2) e q
       ∙ drop-even (kZero (ranksOf t)) (p * weight 8 c) (even-times p (weight 8 c) even)
+
+-- ---- so the class of a packed row is the parity of the sum of k of its section
+pub key-class : (p c key : ℕ) → p < 2 → c < 256 → weight 8 c % 2 ≡ 0 → T (ranksBelow 8 (unpack 8 key))
+    → parK (λ j. kOf (sectionAt p c key j)) 8 ≡ class (unpack 8 key)
+key-class p c key P0 C0 even low =
+    let v = unpack 8 key in
+    let ranks = point-ranks p P0 c v low in
+    class-of p c (pointAt p c v) (point-length p c v) (point-uniform p P0 c v low) (point-bits p P0 c v low ∙ mod-eq-of-lt C0)
+    (subst (λ (w : List ℕ). T (ranksBelow 8 w)) (sym ranks) low) (sectionAt p c key)
+    (λ j h. ap (valOf (p + 2 * bitAt c j)) (sym (unpack-at 8 key j h)) ∙ sym (point-at p c v j h)) even
+    ∙ ap class ranks

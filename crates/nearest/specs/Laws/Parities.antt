@@ -23,6 +23,22 @@ use Rattle.nearest.specs.Laws.Entries.{ES, Mine}
 use Rattle.nearest.specs.Laws.Pass.{Facts, last-final, last-mine}
 use Rattle.nearest.specs.Laws.Winner.{EP, GoodTables, secOf, Answer, join-answer, join-cheap}
 
+-- ---- the choice between two, and the parities in order: what every step keeps is kept
+pub choose-either : (Q : Winner → Type 0) (a b : Winner) → Q a → Q b → Q (choose a b)
+choose-either Q a b x y = go (b .found && (not (a .found) || lt (b .cost) (a .cost)))
+  where
+    go : (c : Bool) → Q (cond c b a)
+    go true = y
+    go false = x
+
+pub over-each : (g : Tables) (u : Rule) (t : Targets) (Q : Winner → Type 0) (qs : List ℕ)
+    → ((q : ℕ) → List·Memᴰ q qs → (best : Winner) → Q best → Q (choose best (parity g u t q (costOf best))))
+    → (best : Winner) → Q best → Q (searchOver g u t best qs)
+unfolding searchOver
+over-each g u t Q [] s best f = f
+over-each g u t Q (q ∷ qs) s best f =
+    over-each g u t Q qs (λ r m. s r (List·Memᴰ·tail m)) (choose best (parity g u t q (costOf best))) (s q (List·Memᴰ·head refl) best f)
+
 -- what a winner that was found is: the point of a parity searched, at its cost
 module _ (g : Tables) (t : Targets) (ps : List ℕ) where
   pub record Settled (w : Winner) : Type 0 where
@@ -36,14 +52,6 @@ module _ (g : Tables) (t : Targets) (ps : List ℕ) where
   pub record Cheap (B : ℕ) (w : Winner) : Type 0 where
     pub found : w .found ≡ true
     pub under : Under (w .cost) B
-
-  -- ---- the choice between two
-  choose-fine : (a b : Winner) → Fine a → Fine b → Fine (choose a b)
-  choose-fine a b x y = go (b .found && (not (a .found) || lt (b .cost) (a .cost)))
-    where
-      go : (c : Bool) → Fine (cond c b a)
-      go true = y
-      go false = x
 
   choose-keeps : (B : ℕ) (a b : Winner) → Cheap B a → Fine b → Cheap B (choose a b)
   choose-keeps B a b c f = go (b .found) refl (a .found) refl (lt (b .cost) (a .cost)) refl
@@ -79,31 +87,22 @@ module _ (g : Tables) (u : Rule) (t : Targets) (G : GoodTables g) (ps : List ℕ
   abbrev Within : List ℕ → Type 0
   Within qs = (q : ℕ) → List·Memᴰ q qs → List·Memᴰ q ps
 
-  over-fine : (qs : List ℕ) → Within qs → (best : Winner) → Fine g t ps best → Fine g t ps (searchOver g u t best qs)
-  unfolding searchOver
-  over-fine [] i best f = f
-  over-fine (q ∷ qs) i best f =
-      over-fine qs (λ r m. i r (List·Memᴰ·tail m)) (choose best (parity g u t q (costOf best)))
-      (choose-fine g t ps best (parity g u t q (costOf best)) f (parity-fine q (i q (List·Memᴰ·head refl)) (costOf best)))
-
-  over-keeps : (B : ℕ) (qs : List ℕ) → Within qs → (best : Winner) → Cheap g t ps B best → Cheap g t ps B (searchOver g u t best qs)
-  unfolding searchOver
-  over-keeps B [] i best c = c
-  over-keeps B (q ∷ qs) i best c =
-      over-keeps B qs (λ r m. i r (List·Memᴰ·tail m)) (choose best (parity g u t q (costOf best)))
-      (choose-keeps g t ps B best (parity g u t q (costOf best)) c (parity-fine q (i q (List·Memᴰ·head refl)) (costOf best)))
+  step-fine : (q : ℕ) → List·Memᴰ q ps → (best : Winner) → Fine g t ps best → Fine g t ps (choose best (parity g u t q (costOf best)))
+  step-fine q i best f = choose-either (Fine g t ps) best (parity g u t q (costOf best)) f (parity-fine q i (costOf best))
 
   over-takes : (B p : ℕ) → ((u0 : Float) → Under (parity g u t p u0 .cost) B) → (qs : List ℕ) → Within qs → List·Memᴰ p qs
       → (best : Winner) → Fine g t ps best → Cheap g t ps B (searchOver g u t best qs)
   unfolding searchOver
   over-takes B p x [] i m best f = absurd (List·Memᴰ·not-nil m)
   over-takes B p x (q ∷ qs) i (List·Memᴰ·head e) best f =
-      over-keeps B qs (λ r m. i r (List·Memᴰ·tail m)) (choose best (parity g u t q (costOf best)))
+      over-each g u t (Cheap g t ps B) qs
+      (λ r m b c. choose-keeps g t ps B b (parity g u t r (costOf b)) c (parity-fine r (i r (List·Memᴰ·tail m)) (costOf b)))
+      (choose best (parity g u t q (costOf best)))
       (choose-takes g t ps B best (parity g u t q (costOf best)) f
       (parity-cheap B q (costOf best) (subst (λ (r : ℕ). Under (parity g u t r (costOf best) .cost) B) e (x (costOf best)))))
   over-takes B p x (q ∷ qs) i (List·Memᴰ·tail m) best f =
       over-takes B p x qs (λ r n. i r (List·Memᴰ·tail n)) m (choose best (parity g u t q (costOf best)))
-      (choose-fine g t ps best (parity g u t q (costOf best)) f (parity-fine q (i q (List·Memᴰ·head refl)) (costOf best)))
+      (step-fine q (i q (List·Memᴰ·head refl)) best f)
 
   none-fine : Fine g t ps nobody
   none-fine e = absurd (subst T (sym e) tt)
@@ -230,4 +229,4 @@ module _ (g : Tables) (u : Rule) (t : Targets) (G : GoodTables g) (ps : List ℕ
       unfolding search
       winner-is-y =
           let c = over-takes BY p under-y ps (λ q m. m) I0 nobody none-fine in
-          cheap-is (searchOver g u t nobody ps) (over-fine ps (λ q m. m) nobody none-fine (c .found)) c
+          cheap-is (searchOver g u t nobody ps) (over-each g u t (Fine g t ps) ps step-fine nobody none-fine (c .found)) c

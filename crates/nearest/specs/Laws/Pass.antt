@@ -1,20 +1,24 @@
--- One parity's pass: at the last join every entry is infinite or stands for a section, and y's three entries are exact and cheap.
+-- One parity's pass: what holds of every entry as it starts and as it is resolved holds at the last join. So there every entry is infinite or
+-- stands for a section, and y's three entries are exact and cheap.
 use mathlib.Core.Path.{_≡_, sym, subst}
 use mathlib.Core.Bool.{Bool, true, false, cond}
+use mathlib.Core.List.{List}
 use Prim.Native.Nat.{ℕ, zero, suc, _/_, _%_, _<_}
 use native.Mathlib.Nat.{mod-lt, zero-lt-suc}
 use native.Mathlib.Omega.{arith}
 use lib.ListN.{getD}
 use lib.Ieee.{Float, nan, lt}
-use Rattle.laws.specs.Lists.{tab-at}
+use Rattle.laws.specs.Lists.{tab, tab-at}
 use Rattle.search.specs.Tables.{Tables}
-use Rattle.search.specs.Entries.{Rule, endStart, midStart}
-use Rattle.search.specs.Parity.{Targets, Seed, closed, starts, solved1, solved2, solved3, seeded, lower, seedBy, seedTo, seedOf, boundsTo, closing, lastSides}
+use Rattle.search.specs.Entries.{Rule, endResolve, endStart, midStart}
+use Rattle.search.specs.Parity.{Targets, Seed, closed, starts, solved1, solved2, solved3, fixed, seeded, lower}
+use Rattle.search.specs.Parity.{seedBy, seedTo, seedOf, boundsTo, closing, lastSides}
 use Rattle.search.specs.declared.Entry.{Entry}
 use Rattle.search.specs.Join.{noEntry, Sides, entAt, allExact, joinTo}
 use Rattle.search.specs.declared.Way.{Way}
 use Rattle.search.specs.declared.Bounds.{Bounds}
-use Rattle.nearest.specs.Laws.Entries.{EndByte, EndFacts, MidFacts, Final, Sound, Mine, resolve-final, start-sound, mid-resolve-final, mid-start-sound, closed-final, closed-mine, fixed-keeps, fixed-mine}
+use Rattle.nearest.specs.Laws.Entries.{EndByte, EndFacts, MidFacts, Final, Sound, Mine, resolve-final, start-sound}
+use Rattle.nearest.specs.Laws.Entries.{mid-resolve-final, mid-start-sound, closed-final, closed-mine, fixed-keeps, fixed-mine}
 
 pub record Facts (g : Tables) (u : Rule) (t : Targets) (p : ℕ) : Type 0 where
   pub one : EndFacts g u (t .t1) 0 p
@@ -25,24 +29,15 @@ pub record Facts (g : Tables) (u : Rule) (t : Targets) (p : ℕ) : Type 0 where
 abbrev pub MidByte : Tables → ℕ → ℕ → Type 0
 MidByte g i x = x ≡ getD (g .sets) (i / 2) 0
 
-abbrev S1 : Tables → Targets → ℕ → ℕ → Entry → Type 0
-S1 g t p i e = i < 128 → Sound (EndByte g 0 (i % 64)) p (i / 64) (t .t1) e
+-- a property of every entry of the three lists
+pub record Each (Q1 Q2 Q3 : ℕ → Entry → Type 0) (s : Sides) : Type 0 where
+  pub one : (i : ℕ) → i < 128 → Q1 i (entAt (s .e1) i)
+  pub two : (i : ℕ) → i < 256 → Q2 i (entAt (s .e2) i)
+  pub three : (i : ℕ) → i < 128 → Q3 i (entAt (s .e3) i)
 
-abbrev S2 : Tables → Targets → ℕ → ℕ → Entry → Type 0
-S2 g t p i e = i < 256 → Sound (MidByte g i) p (i % 2) (t .t2) e
-
-abbrev S3 : Tables → Targets → ℕ → ℕ → Entry → Type 0
-S3 g t p i e = i < 128 → Sound (EndByte g 1 (i % 64)) p (i / 64) (t .t3) e
-
-pub record AllSound (g : Tables) (t : Targets) (p : ℕ) (s : Sides) : Type 0 where
-  pub one : (i : ℕ) → S1 g t p i (entAt (s .e1) i)
-  pub two : (i : ℕ) → S2 g t p i (entAt (s .e2) i)
-  pub three : (i : ℕ) → S3 g t p i (entAt (s .e3) i)
-
-pub record AllFinal (g : Tables) (t : Targets) (p : ℕ) (s : Sides) : Type 0 where
-  pub one : (i : ℕ) → i < 128 → Final (EndByte g 0 (i % 64)) p (i / 64) (t .t1) (entAt (s .e1) i)
-  pub two : (i : ℕ) → i < 256 → Final (MidByte g i) p (i % 2) (t .t2) (entAt (s .e2) i)
-  pub three : (i : ℕ) → i < 128 → Final (EndByte g 1 (i % 64)) p (i / 64) (t .t3) (entAt (s .e3) i)
+abbrev pub AllFinal : Tables → Targets → ℕ → Sides → Type 0
+AllFinal g t p = Each (λ i. Final (EndByte g 0 (i % 64)) p (i / 64) (t .t1)) (λ i. Final (MidByte g i) p (i % 2) (t .t2))
+    (λ i. Final (EndByte g 1 (i % 64)) p (i / 64) (t .t3))
 
 pub record AllMine (s : Sides) (i1 i2 i3 B1 B2 B3 : ℕ) : Type 0 where
   pub one : Mine (entAt (s .e1) i1) B1
@@ -79,64 +74,81 @@ module _ (g : Tables) (u : Rule) (t : Targets) (p : ℕ) where
       go true q = q
       go false q = by (seedTo g u t p s n) (joinTo g p (seedTo g u t p s n .sides) 128) q
 
-module _ (g : Tables) (u : Rule) (t : Targets) (p : ℕ) (F : Facts g u t p) where
-  starts-sound : AllSound g t p (starts g t p)
+-- one of the three lists, n entries: `first` as they start, `new` resolved in full. Q holds through the seed joins, R of what closing leaves
+pub record Kept (n : ℕ) (first new : ℕ → Entry) (Q R : ℕ → Entry → Type 0) : Type 0 where
+  pub start : (i : ℕ) → i < n → Q i (first i)
+  pub solved : (i : ℕ) → i < n → Q i (new i)
+  pub close : (i : ℕ) → i < n → (e : Entry) (b : Bool) → Q i e → R i (closed e b (new i))
+
+module _ {n : ℕ} {first new : ℕ → Entry} {Q R : ℕ → Entry → Type 0} (K : Kept n first new Q R) where
+  start-at : (i : ℕ) → i < n → Q i (entAt (tab first n) i)
+  start-at i h = subst (Q i) (sym (tab-at Entry noEntry first n i h)) (K .start i h)
+
+  fixed-at : (e : List Entry) (w : ℕ) → ((i : ℕ) → i < n → Q i (entAt e i)) → (i : ℕ) → i < n → Q i (entAt (fixed e w (new w)) i)
+  fixed-at e w a i h = fixed-keeps Q e w (new w) i (λ q. subst (λ (j : ℕ). Q i (new j)) (sym q) (K .solved i h)) (a i h)
+
+  close-at : (e : List Entry) (b : List Float) (x : Float) → ((i : ℕ) → i < n → Q i (entAt e i)) → (i : ℕ) → i < n
+      → R i (entAt (tab (λ (j : ℕ). closed (entAt e j) (lt (getD b j nan) x) (new j)) n) i)
+  close-at e b x a i h =
+      subst (R i) (sym (tab-at Entry noEntry (λ (j : ℕ). closed (entAt e j) (lt (getD b j nan) x) (new j)) n i h))
+      (K .close i h (entAt e i) (lt (getD b i nan) x) (a i h))
+
+module _ (g : Tables) (u : Rule) (t : Targets) (p : ℕ) {Q1 R1 Q2 R2 Q3 R3 : ℕ → Entry → Type 0}
+    (K1 : Kept 128 (λ i. endStart g (t .t1) 0 p (i / 64) (i % 64)) (λ i. solved1 g u (t .t1) p i) Q1 R1)
+    (K2 : Kept 256 (λ i. midStart g (t .t2) p (getD (g .sets) (i / 2) 0) (i % 2)) (λ i. solved2 g u (t .t2) p i) Q2 R2)
+    (K3 : Kept 128 (λ i. endStart g (t .t3) 1 p (i / 64) (i % 64)) (λ i. solved3 g u (t .t3) p i) Q3 R3) where
+  starts-have : Each Q1 Q2 Q3 (starts g t p)
   unfolding starts
-  starts-sound = record {
-    one = λ i h. subst (Sound (EndByte g 0 (i % 64)) p (i / 64) (t .t1))
-        (sym (tab-at Entry noEntry (λ i. endStart g (t .t1) 0 p (i / 64) (i % 64)) 128 i h))
-        (start-sound g u (t .t1) 0 p (F .one) (i / 64) (i % 64) (half h) (small i));
-    two = λ i h. subst (Sound (MidByte g i) p (i % 2) (t .t2))
-        (sym (tab-at Entry noEntry (λ i. midStart g (t .t2) p (getD (g .sets) (i / 2) 0) (i % 2)) 256 i h))
-        (mid-start-sound g u (t .t2) p (F .two) (getD (g .sets) (i / 2) 0) (i % 2) (bit i));
-    three = λ i h. subst (Sound (EndByte g 1 (i % 64)) p (i / 64) (t .t3))
-        (sym (tab-at Entry noEntry (λ i. endStart g (t .t3) 1 p (i / 64) (i % 64)) 128 i h))
-        (start-sound g u (t .t3) 1 p (F .three) (i / 64) (i % 64) (half h) (small i));
-  }
+  starts-have = record { one = start-at K1; two = start-at K2; three = start-at K3 }
 
-  -- what is solved in full
-  new1 : (i : ℕ) → i < 128 → Final (EndByte g 0 (i % 64)) p (i / 64) (t .t1) (solved1 g u (t .t1) p i)
-  new1 i h = resolve-final g u (t .t1) 0 p (F .one) (i / 64) (i % 64) (half h) (small i)
+  pub seeds-have : (u0 : Float) (n : ℕ) → Each Q1 Q2 Q3 (seedTo g u t p (record { sides = starts g t p; u = u0; done = false }) n .sides)
+  seeds-have u0 n =
+      seeds-keep g u t p (Each Q1 Q2 Q3)
+      (λ s w a. record {
+        one = fixed-at K1 (s .e1) (w .i1) (a .one);
+        two = fixed-at K2 (s .e2) (w .i2) (a .two);
+        three = fixed-at K3 (s .e3) (w .i3) (a .three);
+      })
+      (record { sides = starts g t p; u = u0; done = false }) starts-have n
 
-  new2 : (i : ℕ) → i < 256 → Final (MidByte g i) p (i % 2) (t .t2) (solved2 g u (t .t2) p i)
-  new2 i h = mid-resolve-final g u (t .t2) p (F .two) (getD (g .sets) (i / 2) 0) (i % 2) (bit i)
-
-  new3 : (i : ℕ) → i < 128 → Final (EndByte g 1 (i % 64)) p (i / 64) (t .t3) (solved3 g u (t .t3) p i)
-  new3 i h = resolve-final g u (t .t3) 1 p (F .three) (i / 64) (i % 64) (half h) (small i)
-
-  seeded-sound : (s : Sides) (w : Way) → AllSound g t p s → AllSound g t p (seeded g u t p s w)
-  seeded-sound s w a = record {
-    one = λ j. fixed-keeps (S1 g t p) (s .e1) (w .i1) (solved1 g u (t .t1) p (w .i1)) j
-        (λ e h q. subst (λ (i : ℕ). Final (EndByte g 0 (j % 64)) p (j / 64) (t .t1) (solved1 g u (t .t1) p i)) (sym e) (new1 j h)) (a .one j);
-    two = λ j. fixed-keeps (S2 g t p) (s .e2) (w .i2) (solved2 g u (t .t2) p (w .i2)) j
-        (λ e h q. subst (λ (i : ℕ). Final (MidByte g j) p (j % 2) (t .t2) (solved2 g u (t .t2) p i)) (sym e) (new2 j h)) (a .two j);
-    three = λ j. fixed-keeps (S3 g t p) (s .e3) (w .i3) (solved3 g u (t .t3) p (w .i3)) j
-        (λ e h q. subst (λ (i : ℕ). Final (EndByte g 1 (j % 64)) p (j / 64) (t .t3) (solved3 g u (t .t3) p i)) (sym e) (new3 j h)) (a .three j);
-  }
-
-  closing-final : (s : Sides) (b : Bounds) → AllSound g t p s → AllFinal g t p (closing g u t p s b)
+  pub closing-has : (s : Sides) (b : Bounds) → Each Q1 Q2 Q3 s → Each R1 R2 R3 (closing g u t p s b)
   unfolding closing
-  closing-final s b a = record {
-    one = λ i h. subst (Final (EndByte g 0 (i % 64)) p (i / 64) (t .t1))
-        (sym (tab-at Entry noEntry (λ i. closed (entAt (s .e1) i) (lt (getD (b .b1) i nan) (b .u)) (solved1 g u (t .t1) p i)) 128 i h))
-        (closed-final (EndByte g 0 (i % 64)) p (i / 64) (t .t1) (entAt (s .e1) i) (lt (getD (b .b1) i nan) (b .u)) (solved1 g u (t .t1) p i)
-        (a .one i h) (new1 i h));
-    two = λ i h. subst (Final (MidByte g i) p (i % 2) (t .t2))
-        (sym (tab-at Entry noEntry (λ i. closed (entAt (s .e2) i) (lt (getD (b .b2) i nan) (b .u)) (solved2 g u (t .t2) p i)) 256 i h))
-        (closed-final (MidByte g i) p (i % 2) (t .t2) (entAt (s .e2) i) (lt (getD (b .b2) i nan) (b .u)) (solved2 g u (t .t2) p i)
-        (a .two i h) (new2 i h));
-    three = λ i h. subst (Final (EndByte g 1 (i % 64)) p (i / 64) (t .t3))
-        (sym (tab-at Entry noEntry (λ i. closed (entAt (s .e3) i) (lt (getD (b .b3) i nan) (b .u)) (solved3 g u (t .t3) p i)) 128 i h))
-        (closed-final (EndByte g 1 (i % 64)) p (i / 64) (t .t3) (entAt (s .e3) i) (lt (getD (b .b3) i nan) (b .u)) (solved3 g u (t .t3) p i)
-        (a .three i h) (new3 i h));
+  closing-has s b a = record {
+    one = close-at K1 (s .e1) (b .b1) (b .u) (a .one);
+    two = close-at K2 (s .e2) (b .b2) (b .u) (a .two);
+    three = close-at K3 (s .e3) (b .b3) (b .u) (a .three);
   }
+
+  pub last-has : (u0 : Float) → Each R1 R2 R3 (lastSides g u t p (seedOf g u t p u0))
+  last-has u0 = let s = seedOf g u t p u0 in closing-has (s .sides) (boundsTo g p (s .sides) (s .u) 4096) (seeds-have u0 2)
+
+module _ (g : Tables) (u : Rule) (t : Targets) (p : ℕ) (F : Facts g u t p) where
+  end-kept : (kind : ℕ) (ts : List Float) → EndFacts g u ts kind p
+      → Kept 128 (λ i. endStart g ts kind p (i / 64) (i % 64)) (λ i. endResolve g u ts kind p (i / 64) (i % 64))
+      (λ i. Sound (EndByte g kind (i % 64)) p (i / 64) ts) (λ i. Final (EndByte g kind (i % 64)) p (i / 64) ts)
+  end-kept kind ts E = record {
+    start = λ i h. start-sound g u ts kind p E (i / 64) (i % 64) (half h) (small i);
+    solved = λ i h q. new i h;
+    close = λ i h e b s. closed-final (EndByte g kind (i % 64)) p (i / 64) ts e b _ s (new i h);
+  }
+    where
+      new : (i : ℕ) → i < 128 → Final (EndByte g kind (i % 64)) p (i / 64) ts (endResolve g u ts kind p (i / 64) (i % 64))
+      new i h = resolve-final g u ts kind p E (i / 64) (i % 64) (half h) (small i)
+
+  mid-kept : Kept 256 (λ i. midStart g (t .t2) p (getD (g .sets) (i / 2) 0) (i % 2)) (λ i. solved2 g u (t .t2) p i)
+      (λ i. Sound (MidByte g i) p (i % 2) (t .t2)) (λ i. Final (MidByte g i) p (i % 2) (t .t2))
+  mid-kept = record {
+    start = λ i h. mid-start-sound g u (t .t2) p (F .two) (getD (g .sets) (i / 2) 0) (i % 2) (bit i);
+    solved = λ i h q. new i;
+    close = λ i h e b s. closed-final (MidByte g i) p (i % 2) (t .t2) e b _ s (new i);
+  }
+    where
+      new : (i : ℕ) → Final (MidByte g i) p (i % 2) (t .t2) (solved2 g u (t .t2) p i)
+      new i = mid-resolve-final g u (t .t2) p (F .two) (getD (g .sets) (i / 2) 0) (i % 2) (bit i)
 
   -- every entry at the last join
   pub last-final : (u0 : Float) → AllFinal g t p (lastSides g u t p (seedOf g u t p u0))
-  last-final u0 =
-      let s = seedOf g u t p u0 in
-      closing-final (s .sides) (boundsTo g p (s .sides) (s .u) 4096)
-      (seeds-keep g u t p (AllSound g t p) seeded-sound (record { sides = starts g t p; u = u0; done = false }) starts-sound 2)
+  last-final = last-has g u t p (end-kept 0 (t .t1) (F .one)) mid-kept (end-kept 1 (t .t3) (F .three))
 
   -- what y has at the start it has at the last join
   module _ (i1 i2 i3 B1 B2 B3 : ℕ) (h1 : i1 < 128) (h2 : i2 < 256) (h3 : i3 < 128) (m1 : Mine (endStart g (t .t1) 0 p (i1 / 64) (i1 % 64)) B1)

@@ -4,7 +4,8 @@ use mathlib.Core.Path.{_≡_, sym, subst}
 use mathlib.Core.Bool.{Bool, true, false, _&&_, cond}
 use mathlib.Core.List.{List, List·Memᴰ}
 use Prim.Native.Nat.{ℕ, _+_, _*_, _%_, _^_, _≤_, _<_}
-use native.Mathlib.Nat.{le-refl, le-trans, le-of-eq, lt-of-lt-of-le, lt-of-le-of-lt, mul-le-mul-left, mul-lt-mul-of-pos-right, le-of-mul-le-mul-right, add-mul, mod-lt, zero-lt-suc}
+use native.Mathlib.Nat.{le-refl, le-trans, le-of-eq, lt-of-lt-of-le, lt-of-le-of-lt}
+use native.Mathlib.Nat.{mul-le-mul-left, mul-lt-mul-of-pos-right, le-of-mul-le-mul-right, add-mul, mod-lt, zero-lt-suc}
 use native.Mathlib.Omega.{arith}
 use lib.Dec.{T, leb, leb→le, ltb, ltb→lt, lit≤}
 use lib.Pow.{pow-pos}

@@ -15,18 +15,17 @@ use Rattle.float.specs.Value.{magUnits, isMinus, posUnits, negUnits, U}
 use Rattle.laws.specs.Whole.{gap, posPart, negPart}
 use Rattle.float.specs.Laws.Exact.{parts, mag-parts}
 use Rattle.float.specs.Distance.{coordGap}
-use Rattle.rank.specs.Vector.{sq}
 use Rattle.rank.specs.Coord.{valOf}
-use Rattle.laws.specs.Tests.{upto, below}
+use Rattle.laws.specs.Tests.{upto, below2}
 use Rattle.search.specs.Record.{member}
 use Rattle.search.specs.Entries.{rankAt}
 use Rattle.search.specs.declared.Closed.{Closed}
 use Rattle.nearest.specs.Laws.Forms.{oddK, sumTo, parK, RowOf}
 use Rattle.nearest.specs.Laws.Sums.{sum-set}
-use Rattle.nearest.specs.Laws.Keys.{member-one, nib-lt}
+use Rattle.nearest.specs.Laws.Keys.{member-one}
 use Rattle.nearest.specs.Laws.Ints.{gapK, gap-is, odd-suc, odd-pred, abs-parts}
 use Rattle.nearest.specs.Laws.Lattice.{Sec, Same, dist8, M}
-use Rattle.nearest.specs.Laws.Shape.{oAt, o-lt, term-le, holds-le, weight-le}
+use Rattle.nearest.specs.Laws.Shape.{oAt, o-lt, ranks-le}
 use Rattle.nearest.specs.Laws.Candidate.{tAt, sqV}
 use Rattle.nearest.specs.Laws.Premises.{Target16}
 
@@ -64,8 +63,8 @@ moves false k q = let a = pred-parts (predℤ k) in let b = pred-parts k in
     no a b c d e f x y z w = omega arith
 
 -- over variables: two steps up or down move o + 4 k by 8
-two-up : (b : Bool) (k : ℤ) → posPart (up2 true k) + negPart k ≡ posPart k + 2 + negPart (up2 true k)
-two-up b k = let x = suc-parts (sucℤ k) in let y = suc-parts k in omega arith
+two-up : (k : ℤ) → posPart (up2 true k) + negPart k ≡ posPart k + 2 + negPart (up2 true k)
+two-up k = let x = suc-parts (sucℤ k) in let y = suc-parts k in omega arith
 
 two-down : (k : ℤ) → posPart (up2 false k) + 2 + negPart k ≡ posPart k + negPart (up2 false k)
 two-down k = let x = pred-parts (predℤ k) in let y = pred-parts k in omega arith
@@ -88,23 +87,20 @@ nearer o k t h = go (leb ((o + 4 * posPart k) * U + negUnits t) (4 * negPart k *
     down-le : (a b c d u x y : ℕ) → a + d ≡ c + 8 * u + b → b + x ≤ a + y → 4 * u ≤ gap (a + y) (b + x) → gap (c + y) (d + x) ≤ gap (a + y) (b + x)
     down-le a b c d u x y h k l = omega arith
 
-    swap : (p n a b : ℕ) → p + 2 + b ≡ a + n → a + n ≡ p + 2 + b
-    swap p n a b h = sym h
-
     go : (b : Bool) → (T b → (o + 4 * posPart k) * U + negUnits t ≤ 4 * negPart k * U + posUnits t)
         → (T (not b) → 4 * negPart k * U + posUnits t < (o + 4 * posPart k) * U + negUnits t) → (b : Bool) × (gapK o (up2 b k) t ≤ gapK o k t)
     go true f g = (
       true,
       up-le ((o + 4 * posPart k) * U) (4 * negPart k * U) ((o + 4 * posPart (up2 true k)) * U) (4 * negPart (up2 true k) * U) U (posUnits t)
           (negUnits t)
-          (times (posPart (up2 true k)) (negPart (up2 true k)) (posPart k) (negPart k) U (two-up true k)) (f tt) h,
+          (times (posPart (up2 true k)) (negPart (up2 true k)) (posPart k) (negPart k) U (two-up k)) (f tt) h,
     )
     go false f g = (
       false,
       down-le ((o + 4 * posPart k) * U) (4 * negPart k * U) ((o + 4 * posPart (up2 false k)) * U) (4 * negPart (up2 false k) * U) U
           (posUnits t) (negUnits t)
           (times (posPart k) (negPart k) (posPart (up2 false k)) (negPart (up2 false k)) U
-          (swap (posPart (up2 false k)) (negPart (up2 false k)) (posPart k) (negPart k) (two-down k)))
+          (sym (two-down k)))
           (native.Mathlib.Nat.le-of-lt (g tt)) h,
     )
 
@@ -176,14 +172,9 @@ small-val = tt
 
 pub row-small : (p c : ℕ) → p < 2 → (b : Closed) → b .cost ≤ 96 → (y : ℕ → ℤ) → RowOf p c b y → (j : ℕ) → j < 8 → natAbs (y j) < 11
 row-small p c P0 b B0 y R j h = subst (λ (z : ℤ). natAbs z < 11) (sym (R .at j h))
-    (ltb→lt _ 11 (below 5 (λ r. ltb (natAbs (valOf (oAt p c j) r)) 11)
-    (below 4 (λ o. upto 5 (λ r. ltb (natAbs (valOf o r)) 11)) small-val (oAt p c j) (o-lt p c j P0)) (rankAt (R .key) j) (suc-le rho4)))
+    (ltb→lt _ 11 (below2 4 5 (λ o r. ltb (natAbs (valOf o r)) 11) small-val (oAt p c j) (rankAt (R .key) j) (o-lt p c j P0)
+    (suc-le (ranks-le (rankAt (R .key)) b B0 _ (R .key) refl (R .within) j h))))
   where
-    rho4 : rankAt (R .key) j ≤ 4
-    rho4 = weight-le (rankAt (R .key) j) (nib-lt (R .key) j)
-        (le-trans (term-le (λ j. sq (rankAt (R .key) j)) 8 j h)
-        (le-trans (holds-le b (sumTo (λ j. sq (rankAt (R .key) j)) 8) (R .key) (R .within)) B0))
-
     suc-le : {a : ℕ} → a ≤ 4 → a < 5
     suc-le h = omega arith
 

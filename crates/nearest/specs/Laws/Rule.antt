@@ -13,7 +13,6 @@ use lib.ListN.{getD}
 use lib.Signed.{ltZ}
 use lib.IntN.{ℤ, pos, _-ℤ_, +ℤ-sucℤ, +ℤ-idr}
 use lib.Ieee.{Float, lt, le}
-use Rattle.laws.specs.Tests.{cond-same}
 use Rattle.rank.specs.Vector.{sq}
 use Rattle.search.specs.declared.Coord.{Coord}
 use Rattle.search.specs.Record.{coordAt, slotK, row}
@@ -23,13 +22,15 @@ use Rattle.search.specs.declared.Best.{Best}
 use Rattle.search.specs.declared.Top.{Top}
 use Rattle.search.specs.Bound.{holds}
 use Rattle.search.specs.Base.{parTo, worstTo, slotOf, towardOf, nowTo, keySet, stepped}
-use Rattle.search.specs.Solve.{otherOf, secondOf, fixOf, topTo, stepOf, movedD, movedC, keyMoved, moveAt, movesTo, keptBase, layerAt, unmet, firstBase, layersTo, solve}
+use Rattle.search.specs.Solve.{otherOf, secondOf, fixOf, topTo, stepOf}
+use Rattle.search.specs.Solve.{movedD, movedC, keyMoved, moveAt, movesTo, keptBase, layerAt, unmet, firstBase, layersTo, solve}
 use Rattle.nearest.specs.Laws.Forms.{oddK, sumTo, parK}
 use Rattle.nearest.specs.Laws.Sums.{sum-same, sum-set}
 use Rattle.nearest.specs.Laws.Ints.{odd-suc}
 use Rattle.nearest.specs.Laws.Base.{par-is, worst-lt}
 use Rattle.nearest.specs.Laws.Keys.{markK}
-use Rattle.nearest.specs.Laws.Shape.{oAt, Slots, Shape, shape-eq, slot-lt, now-shape, step-shape, two-shape, sum-two}
+use Rattle.nearest.specs.Laws.Shape.{oAt, Slots, Shape, shape-eq, slot-lt, slot-at, slot-off, slot-plain}
+use Rattle.nearest.specs.Laws.Shape.{now-shape, step-shape, two-shape, sum-two}
 
 -- ---- the two largest regrets are two
 abbrev pub TopOk : Top → ℕ → Type 0
@@ -60,10 +61,7 @@ slot-flip k zero h = ap (λ (z : ℤ). oddK z + oddK (slotK k 0)) (+ℤ-sucℤ k
 slot-flip k (suc zero) h = ap (λ (z : ℤ). oddK z + oddK (slotK k 1)) (+ℤ-sucℤ k (pos 1 -ℤ pos 2)) ∙ odd-suc (slotK k 1)
 slot-flip k (suc (suc zero)) h = ap (λ (z : ℤ). oddK z + oddK (slotK k 2)) (+ℤ-sucℤ k (pos 2 -ℤ pos 2)) ∙ odd-suc (slotK k 2)
 slot-flip k (suc (suc (suc zero))) h = ap (λ (z : ℤ). oddK z + oddK (slotK k 3)) (+ℤ-sucℤ k (pos 3 -ℤ pos 2)) ∙ odd-suc (slotK k 3)
-slot-flip k (suc (suc (suc (suc f)))) h = absurd (none h)
-  where
-    none : suc (suc (suc (suc f))) < 4 → ⊥
-    none h = omega arith
+slot-flip k (suc (suc (suc (suc f)))) h = absurd (omega arith)
 
 pub adj-flip : (k : ℤ) (f g : ℕ) → f < 5 → g < 5 → Adj f g → oddK (slotK k f) + oddK (slotK k g) ≡ 1
 adj-flip k f g a b (inl q) = subst
@@ -130,10 +128,7 @@ second-ok g d h = go (eqb g 2) (eqb→eq g 2) refl
 first-ok : (g b : ℕ) → Mid g → b < 2 → Adj (g + 2 * b - 1) g × (g + 2 * b - 1 < 5)
 first-ok g zero h l = let x = h .0 in let y = h .1 in (inl (omega arith), omega arith)
 first-ok g (suc zero) h l = let x = h .0 in let y = h .1 in (inr (omega arith), omega arith)
-first-ok g (suc (suc b)) h l = absurd (none l)
-  where
-    none : suc (suc b) < 2 → ⊥
-    none h = omega arith
+first-ok g (suc (suc b)) h l = absurd (omega arith)
 
 -- ---- whole numbers of the candidates: all at their rounding but slot fix at j0,
 abbrev pub kBase : List Coord → ℕ → ℕ → ℕ → ℤ
@@ -151,24 +146,17 @@ module _ (e : List Coord) where
   pub slot-class : (j0 want : ℕ) → j0 < 8 → want < 2 → parK (kBase e j0 (fixOf e want j0)) 8 ≡ want
   slot-class j0 want J0 W0 = go (eqb (parTo e 8) want) (eqb→eq (parTo e 8) want) refl
     where
-      to : ℕ
-      to = towardOf (coordAt e j0 .dir)
-
       kT : ℕ → ℤ
       kT j = slotK (kE j) (slotOf j0 (towardOf (coordAt e j0 .dir)) j)
 
       off : (j : ℕ) → slotK (kE j) (slotOf j0 2 j) ≡ kE j
-      off j = at (eqb j j0)
-        where
-          at : (b : Bool) → slotK (kE j) (cond b 2 2) ≡ kE j
-          at true = +ℤ-idr (kE j)
-          at false = +ℤ-idr (kE j)
+      off j = ap (slotK (kE j)) (slot-plain j0 j) ∙ +ℤ-idr (kE j)
 
       at-j0 : kT j0 ≡ slotK (kE j0) (towardOf (coordAt e j0 .dir))
-      at-j0 = ap (λ (b : Bool). slotK (kE j0) (cond b (towardOf (coordAt e j0 .dir)) 2)) (eq-eqb j0 j0 refl)
+      at-j0 = ap (slotK (kE j0)) (slot-at j0 (towardOf (coordAt e j0 .dir)))
 
       away : (j : ℕ) → j ≢ j0 → kT j ≡ kE j
-      away j d = ap (λ (b : Bool). slotK (kE j) (cond b (towardOf (coordAt e j0 .dir)) 2)) (ne-eqb j j0 d) ∙ +ℤ-idr (kE j)
+      away j d = ap (slotK (kE j)) (slot-off j0 (towardOf (coordAt e j0 .dir)) j d) ∙ +ℤ-idr (kE j)
 
       other : (f g x y a r : ℕ) → f + y ≡ g + x → x + y ≡ 1 → a ≡ g % 2 → a ≢ r → r < 2 → f % 2 ≡ r
       other f g x y a r h k l m n = omega arith
@@ -248,9 +236,6 @@ module _ (p c : ℕ) (e : List Coord) (R : Slots p c e) where
       four x x' y y' u u' v v' p q r s =
           ap₂ (λ (a b : ℕ). nowTo e j0 fix 8 .cost - a - b + u + v) p q ∙ ap₂ (λ (a b : ℕ). nowTo e j0 fix 8 .cost - x' - y' + a + b) r s
 
-  plain-slot : (i : ℕ) → slotOf 0 2 i ≡ 2
-  plain-slot i = cond-same ℕ (eqb i 0) 2
-
   abbrev jW : ℕ
   jW = worstTo e 8
 
@@ -269,15 +254,15 @@ module _ (p c : ℕ) (e : List Coord) (R : Slots p c e) where
       shape-eq p c (step-shape p c (kBase e 0 2) (kBase e jW to) jW w8 off (nowTo e 0 2 8 .cost) (nowTo e 0 2 8 .key)
       (now-shape p c e R 0 2 (lit≤ tt)))
       (ap₂ (λ (a b : ℕ). nowTo e 0 2 8 .cost - a + b)
-      (R .w-is jW 2 w8 (lit≤ tt) ∙ ap (λ (f : ℕ). sq (markK (oAt p c jW) (slotK (coordAt e jW .k0) f))) (sym (plain-slot jW)))
+      (R .w-is jW 2 w8 (lit≤ tt) ∙ ap (λ (f : ℕ). sq (markK (oAt p c jW) (slotK (coordAt e jW .k0) f))) (sym (slot-plain 0 jW)))
       (R .w-is jW to w8 t5 ∙ ap (λ (z : ℤ). sq (markK (oAt p c jW) z)) (sym at-w)))
       (ap (keySet (nowTo e 0 2 8 .key) jW) (R .rank-is jW to w8 t5 ∙ ap (markK (oAt p c jW)) (sym at-w)))
     where
       at-w : kBase e jW to jW ≡ slotK (coordAt e jW .k0) to
-      at-w = ap (λ (b : Bool). slotK (coordAt e jW .k0) (cond b to 2)) (eq-eqb jW jW refl)
+      at-w = ap (slotK (coordAt e jW .k0)) (slot-at jW to)
 
       off : (j : ℕ) → j < 8 → j ≢ jW → kBase e jW to j ≡ kBase e 0 2 j
-      off j h d = ap (λ (b : Bool). slotK (coordAt e j .k0) (cond b to 2)) (ne-eqb j jW d) ∙ ap (slotK (coordAt e j .k0)) (sym (plain-slot j))
+      off j h d = ap (slotK (coordAt e j .k0)) (slot-off jW to j d ∙ sym (slot-plain 0 j))
 
 -- ---- what is asked of the candidates on a row of records
 pub record Gives (Q : ℕ → Float → Type 0) (want : ℕ) (bound : Closed) (e : List Coord) : Type 0 where

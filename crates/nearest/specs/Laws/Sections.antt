@@ -20,11 +20,12 @@ use Rattle.search.specs.Tables.{Tables, classOf}
 use Rattle.search.specs.Entries.{Rule}
 use Rattle.search.specs.Parity.{Targets, search}
 use Rattle.search.specs.Record.{member, bitAt}
+use Rattle.search.specs.declared.Closed.{Closed}
 use Rattle.search.specs.declared.Winner.{Winner}
 use Rattle.search.specs.Block.{sections, pointAt}
-use Rattle.nearest.specs.Laws.Forms.{oddK, sumTo, parK, RuleOk, at24}
+use Rattle.nearest.specs.Laws.Forms.{oddK, sumTo, parK, RowOf, RuleOk, at24}
 use Rattle.nearest.specs.Laws.Sums.{sum-same}
-use Rattle.nearest.specs.Laws.Lattice.{Point, Same, dist8, dist24, Margin, M, own1, own2, own3}
+use Rattle.nearest.specs.Laws.Lattice.{Sec, Point, Same, dist8, dist24, Margin, M, own1, own2, own3}
 use Rattle.nearest.specs.Laws.Winner.{GoodTables, secOf}
 use Rattle.nearest.specs.Laws.Parities.{IsY}
 use Rattle.nearest.specs.Laws.Premises.{MoreTables, HasRows, Target16, class-cost, all-facts, demand-three}
@@ -63,10 +64,7 @@ eight P a b c d e f g h (suc (suc (suc (suc zero)))) l = e
 eight P a b c d e f g h (suc (suc (suc (suc (suc zero))))) l = f
 eight P a b c d e f g h (suc (suc (suc (suc (suc (suc zero)))))) l = g
 eight P a b c d e f g h (suc (suc (suc (suc (suc (suc (suc zero))))))) l = h
-eight P a b c d e f g h (suc (suc (suc (suc (suc (suc (suc (suc j)))))))) l = absurd (none l)
-  where
-    none : suc (suc (suc (suc (suc (suc (suc (suc j))))))) < 8 → ⊥
-    none l = omega arith
+eight P a b c d e f g h (suc (suc (suc (suc (suc (suc (suc (suc j)))))))) l = absurd (omega arith)
 
 pub all24 : (P : ℕ → Type 0) → ((j : ℕ) → j < 8 → P j) → ((j : ℕ) → j < 8 → P (8 + j)) → ((j : ℕ) → j < 8 → P (16 + j)) → (j : ℕ) → j < 24 → P j
 all24 P a b c j h = go (le-or-lt 8 j) (le-or-lt 16 j)
@@ -371,30 +369,30 @@ module _ (g : Tables) (B : Bytes g) where
         abbrev Y : Point g (L .p) (sec1 y) (sec2 y) (sec3 y)
         Y = point-of y L
 
+        -- the target's section ts, which starts at the place `at 0`, is below 16
+        small : (ts : List Float) (at : ℕ → ℕ) (c r : ℕ) (b : Closed) → b .cost ≤ 96 → (s : ℕ → ℤ) → RowOf (L .p) c b s → Sec (L .p) c r s
+            → ((z : ℕ → ℤ) → Sec (L .p) c r z → dist8 z ts ≤ dist8 s ts + M → Same z s)
+            → ((j : ℕ) → j < 8 → getD ts j nan ≡ getD t (at j) nan) → ((j : ℕ) → j < 8 → at j < 24) → (j : ℕ) → j < 8 → Target16 (getD ts j nan)
+        small ts at c r b B0 s R S own e up j h =
+            below16 (s j) (getD ts j nan) (subst (λ (x : Float). T (fits binary64 x)) (sym (e j h)) (fit (at j) (up j h)))
+            (subst (λ (x : Float). T (finite x)) (sym (e j h)) (fin (at j) (up j h))) (row-small (L .p) c (L .p-lt) b B0 s R j h)
+            (within4 ts (L .p) c r (L .p-lt) s own S j h)
+
         small1 : (j : ℕ) → j < 8 → Target16 (getD (S .t1) j nan)
-        small1 j h = below16 (sec1 y j) (getD (S .t1) j nan)
-            (subst (λ (x : Float). T (fits binary64 x)) (sym (tt1 j h)) (fit j (up8 h)))
-            (subst (λ (x : Float). T (finite x)) (sym (tt1 j h)) (fin j (up8 h)))
-            (row-small (L .p) (getD (g .pre) (2 * Y .s8 + Y .b1) 0) (L .p-lt) (classOf g (Y .r1)) (class-cost g G1 (Y .r1)) (sec1 y) (W .one) j h)
-            (within4 (S .t1) (L .p) (getD (g .pre) (2 * Y .s8 + Y .b1) 0) (Y .r1) (L .p-lt) (sec1 y)
-            (own1 g S ps (L .p) I0 (sec1 y) (sec2 y) (sec3 y) Y margin (Y .b1) (Y .b1-lt)) (Y .sec1) j h)
+        small1 =
+            small (S .t1) (λ j. j) (getD (g .pre) (2 * Y .s8 + Y .b1) 0) (Y .r1) (classOf g (Y .r1)) (class-cost g G1 (Y .r1)) (sec1 y) (W .one)
+            (Y .sec1) (own1 g S ps (L .p) I0 (sec1 y) (sec2 y) (sec3 y) Y margin (Y .b1) (Y .b1-lt)) tt1 (λ j. up8)
 
         small2 : (j : ℕ) → j < 8 → Target16 (getD (S .t2) j nan)
-        small2 j h = below16 (sec2 y j) (getD (S .t2) j nan)
-            (subst (λ (x : Float). T (fits binary64 x)) (sym (tt2 j h)) (fit (8 + j) (up16 h)))
-            (subst (λ (x : Float). T (finite x)) (sym (tt2 j h)) (fin (8 + j) (up16 h)))
-            (row-small (L .p) (getD (g .mid) (Y .s8 * 16 + Y .b2) 0) (L .p-lt) (g .mixed) (G1 .costM) (sec2 y) (W .two) j h)
-            (within4 (S .t2) (L .p) (getD (g .mid) (Y .s8 * 16 + Y .b2) 0) (Y .r2) (L .p-lt) (sec2 y)
-            (own2 g S ps (L .p) I0 (sec1 y) (sec2 y) (sec3 y) Y margin) (Y .sec2) j h)
+        small2 =
+            small (S .t2) (λ j. 8 + j) (getD (g .mid) (Y .s8 * 16 + Y .b2) 0) (Y .r2) (g .mixed) (G1 .costM) (sec2 y) (W .two) (Y .sec2)
+            (own2 g S ps (L .p) I0 (sec1 y) (sec2 y) (sec3 y) Y margin) tt2 (λ j. up16)
 
         small3 : (j : ℕ) → j < 8 → Target16 (getD (S .t3) j nan)
-        small3 j h = below16 (sec3 y j) (getD (S .t3) j nan)
-            (subst (λ (x : Float). T (fits binary64 x)) (sym (tt3 j h)) (fit (16 + j) (up24 h)))
-            (subst (λ (x : Float). T (finite x)) (sym (tt3 j h)) (fin (16 + j) (up24 h)))
-            (row-small (L .p) (getD (g .suf) (2 * getD (g .nxt) (Y .s8 * 16 + Y .b2) 0 + Y .b3) 0) (L .p-lt)
-            (classOf g ((L .p + Y .r1 + Y .r2) % 2)) (class-cost g G1 ((L .p + Y .r1 + Y .r2) % 2)) (sec3 y) (W .three) j h)
-            (within4 (S .t3) (L .p) (getD (g .suf) (2 * getD (g .nxt) (Y .s8 * 16 + Y .b2) 0 + Y .b3) 0) ((L .p + Y .r1 + Y .r2) % 2)
-            (L .p-lt) (sec3 y) (own3 g S ps (L .p) I0 (sec1 y) (sec2 y) (sec3 y) Y margin (Y .b3) (Y .b3-lt)) (Y .sec3) j h)
+        small3 =
+            let r = (L .p + Y .r1 + Y .r2) % 2 in
+            small (S .t3) (λ j. 16 + j) (getD (g .suf) (2 * getD (g .nxt) (Y .s8 * 16 + Y .b2) 0 + Y .b3) 0) r (classOf g r) (class-cost g G1 r)
+            (sec3 y) (W .three) (Y .sec3) (own3 g S ps (L .p) I0 (sec1 y) (sec2 y) (sec3 y) Y margin (Y .b3) (Y .b3-lt)) tt3 (λ j. up24)
 
         is-y : IsY g u S G0 ps PS (λ q i. all-facts g G1 u U0 S small1 small2 small3 q (PS q i)) (sec1 y) (sec2 y) (sec3 y) margin (search g u S ps)
         is-y = demand-three g G0 G1 u U0 S small1 small2 small3 ps PS (L .p) I0 (sec1 y) (sec2 y) (sec3 y) Y W margin

@@ -12,10 +12,10 @@ use borrow.Author.Tests.{eq-eqb, ne-eqb, lt-ltb, le-ltb}
 use lib.Dec.{T, ltb, leb, eqb, ltb→lt, nltb→le, leb→le, nleb→lt, eqb→eq, lit≤}
 use lib.ListN.{getD}
 use lib.Bits.{bitOr, bitAnd, or-lt, and-le-l}
-use lib.IntN.{ℤ, pos, negsuc, natAbs, _+ℤ_, _-ℤ_}
+use lib.IntN.{ℤ, pos, natAbs, _+ℤ_, _-ℤ_}
 use lib.Ieee.{Float, nan, binary64, add}
 use Rattle.laws.specs.Lists.{tab-at}
-use Rattle.laws.specs.Tests.{upto, below}
+use Rattle.laws.specs.Tests.{upto, below, cond-same}
 use Rattle.laws.specs.Whole.{posPart, negPart}
 use Rattle.rank.specs.Coord.{valOf}
 use Rattle.rank.specs.Vector.{sq}
@@ -29,7 +29,7 @@ use Rattle.search.specs.Entries.{rankAt, distTo, sectionAt}
 use Rattle.nearest.specs.Laws.Keys.{markK, rank-lt, rank-back, nib-put, nib-set, nib-moved}
 use Rattle.nearest.specs.Laws.Forms.{sumTo}
 use Rattle.nearest.specs.Laws.Sums.{sum-set}
-use Rattle.nearest.specs.Laws.Ints.{add-parts, abs-parts, member-parts}
+use Rattle.nearest.specs.Laws.Ints.{add-parts, abs-parts, member-parts, one-part}
 
 abbrev pub oAt : ℕ → ℕ → ℕ → ℕ
 oAt p c j = p + 2 * bitAt c j
@@ -38,19 +38,16 @@ pub o-lt : (p c j : ℕ) → p < 2 → oAt p c j < 4
 o-lt p c j h = let a = mod-lt (c / 2 ^ j) (zero-lt-suc 1) in omega arith
 
 -- a term is no more than the sum
-pub term-le : (f : ℕ → ℕ) (n j : ℕ) → j < n → f j ≤ sumTo f n
+term-le : (f : ℕ → ℕ) (n j : ℕ) → j < n → f j ≤ sumTo f n
 unfolding sumTo
-term-le f zero j h = absurd (none h)
-  where
-    none : j < 0 → ⊥
-    none h = omega arith
-term-le f (suc n) j h = go (λ l. term-le f n j l) (native.Mathlib.Decide.ℕ-discrete n j)
+term-le f zero j h = absurd (omega arith)
+term-le f (suc n) j h = go (λ l. term-le f n j l) (ℕ-discrete n j)
   where
     go : (j < n → f j ≤ sumTo f n) → Dec (n ≡ j) → f j ≤ sumTo f n + f n
     go r (yes e) = let a : f n ≡ f j = ap f e in omega arith
     go r (no d) = let l : j < n = omega arith in let a = r l in omega arith
 
-pub holds-le : (b : Closed) (cost key : ℕ) → holds b cost key ≡ true → cost ≤ b .cost
+holds-le : (b : Closed) (cost key : ℕ) → holds b cost key ≡ true → cost ≤ b .cost
 holds-le b cost key h = go (ltb cost (b .cost)) (eqb cost (b .cost)) (ltb→lt cost (b .cost)) (eqb→eq cost (b .cost)) (subst T (sym h) tt)
   where
     go : (x y : Bool) → (T x → cost < b .cost) → (T y → cost ≡ b .cost) → T (x || (y && (leb (lexOf key) (b .cut)))) → cost ≤ b .cost
@@ -59,8 +56,8 @@ holds-le b cost key h = go (ltb cost (b .cost)) (eqb cost (b .cost)) (ltb→lt c
     go false false k l t = absurd t
 
 -- (2 r + 1) ^ 2 at most 96 leaves r at most 4
-pub weight-le : (r : ℕ) → r < 16 → sq r ≤ 96 → r ≤ 4
-weight-le r h l = go (leb r 4) (leb→le r 4) (nleb→lt r 4)
+weight-le : (r : ℕ) → sq r ≤ 96 → r ≤ 4
+weight-le r l = go (leb r 4) (leb→le r 4) (nleb→lt r 4)
   where
     go : (t : Bool) → (T t → r ≤ 4) → (T (not t) → 4 < r) → r ≤ 4
     go true a b = a tt
@@ -71,6 +68,12 @@ weight-le r h l = go (leb r 4) (leb→le r 4) (nleb→lt r 4)
 
         no : (x : ℕ) → 11 ≤ x → x * x ≤ 96 → ⊥
         no x m k = let y : 11 * 11 ≤ x * x = mul-le-mul m m in omega arith
+
+-- so every rank is, where a bound of at most 96 holds
+pub ranks-le : (r : ℕ → ℕ) (b : Closed) → b .cost ≤ 96 → (cost key : ℕ) → cost ≡ sumTo (λ j. sq (r j)) 8 → holds b cost key ≡ true
+    → (j : ℕ) → j < 8 → r j ≤ 4
+ranks-le r b B0 cost key e h j l =
+    weight-le (r j) (le-trans (term-le (λ j. sq (r j)) 8 j l) (le-trans (le-of-eq (sym e)) (le-trans (holds-le b cost key h) B0)))
 
 zeros : T (upto 8 (λ i. eqb (rankAt 0 i) 0))
 zeros = tt
@@ -85,10 +88,7 @@ five-at f (suc zero) d h = refl
 five-at f (suc (suc zero)) d h = refl
 five-at f (suc (suc (suc zero))) d h = refl
 five-at f (suc (suc (suc (suc zero)))) d h = refl
-five-at f (suc (suc (suc (suc (suc n))))) d h = absurd (none h)
-  where
-    none : suc (suc (suc (suc (suc n)))) < 5 → ⊥
-    none h = omega arith
+five-at f (suc (suc (suc (suc (suc n))))) d h = absurd (omega arith)
 
 -- two terms changed
 pub sum-two : (f g : ℕ → ℕ) (i l n : ℕ) → i < n → l < n → i ≢ l → ((j : ℕ) → j < n → j ≢ i → j ≢ l → f j ≡ g j) → sumTo f n + (g i + g l)
@@ -152,12 +152,8 @@ set-lt key x j h = or-lt 32 (bitAnd key (4294967295 - 15 * 2 ^ (4 * j) % 4294967
 -- ---- sizes
 pub member-abs : (o : ℕ) (k : ℤ) → natAbs (member o k) ≤ o + 4 * natAbs k
 member-abs o k = go (posPart (member o k)) (negPart (member o k)) o (posPart k) (negPart k) (natAbs k) (natAbs (member o k)) (abs-parts k)
-    (abs-parts (member o k)) (member-parts o k) (one (member o k))
+    (abs-parts (member o k)) (member-parts o k) (one-part (member o k))
   where
-    one : (z : ℤ) → (posPart z ≡ 0) ⊎ (negPart z ≡ 0)
-    one (pos n) = inr refl
-    one (negsuc n) = inl refl
-
     go : (p n o a b m v : ℕ) → m ≡ a + b → v ≡ p + n → p + 4 * b ≡ o + 4 * a + n → (p ≡ 0) ⊎ (n ≡ 0) → v ≤ o + 4 * m
     go p n o a b m v x y z (inl q) = omega arith
     go p n o a b m v x y z (inr q) = omega arith
@@ -168,21 +164,14 @@ off-abs (suc zero) h = omega arith
 off-abs (suc (suc zero)) h = omega arith
 off-abs (suc (suc (suc zero))) h = omega arith
 off-abs (suc (suc (suc (suc zero)))) h = le-refl 2
-off-abs (suc (suc (suc (suc (suc n))))) h = absurd (none h)
-  where
-    none : suc (suc (suc (suc (suc n)))) < 5 → ⊥
-    none h = omega arith
+off-abs (suc (suc (suc (suc (suc n))))) h = absurd (omega arith)
 
 pub slot-abs : (k : ℤ) (f : ℕ) → f < 5 → natAbs (slotK k f) ≤ natAbs k + 2
 slot-abs k f l =
     let z = pos f -ℤ pos 2 in
     go (posPart (k +ℤ z)) (negPart (k +ℤ z)) (posPart k) (negPart k) (posPart z) (negPart z) (natAbs k) (natAbs z) (natAbs (k +ℤ z))
-    (off-abs f l) (abs-parts k) (abs-parts z) (abs-parts (k +ℤ z)) (add-parts k z) (one (k +ℤ z))
+    (off-abs f l) (abs-parts k) (abs-parts z) (abs-parts (k +ℤ z)) (add-parts k z) (one-part (k +ℤ z))
   where
-    one : (z : ℤ) → (posPart z ≡ 0) ⊎ (negPart z ≡ 0)
-    one (pos n) = inr refl
-    one (negsuc n) = inl refl
-
     go : (p n a b c d m o v : ℕ) → o ≤ 2 → m ≡ a + b → o ≡ c + d → v ≡ p + n → p + (b + d) ≡ a + c + n → (p ≡ 0) ⊎ (n ≡ 0) → v ≤ m + 2
     go p n a b c d m o v l x y z w (inl q) = omega arith
     go p n a b c d m o v l x y z w (inr q) = omega arith
@@ -239,6 +228,15 @@ slot-lt j0 fix j F0 = go (eqb j j0)
     go : (b : Bool) → cond b fix 2 < 5
     go true = F0
     go false = lit≤ tt
+
+pub slot-at : (j0 fix : ℕ) → slotOf j0 fix j0 ≡ fix
+slot-at j0 fix = ap (λ (b : Bool). cond b fix 2) (eq-eqb j0 j0 refl)
+
+pub slot-off : (j0 fix j : ℕ) → j ≢ j0 → slotOf j0 fix j ≡ 2
+slot-off j0 fix j d = ap (λ (b : Bool). cond b fix 2) (ne-eqb j j0 d)
+
+pub slot-plain : (j0 j : ℕ) → slotOf j0 2 j ≡ 2
+slot-plain j0 j = cond-same ℕ (eqb j j0) 2
 
 module _ (p c : ℕ) (e : List Coord) (R : Slots p c e) (j0 fix : ℕ) (F0 : fix < 5) where
   abbrev kS : ℕ → ℤ
@@ -370,8 +368,6 @@ now-dist ts p c e D j0 fix F0 (suc n) h =
 -- ---- within a bound a candidate's key is its section's: ranks of at most 4 give their members back
 pub shape-at : (p c : ℕ) → p < 2 → (b : Closed) → b .cost ≤ 96 → (k : ℕ → ℤ) (cost key : ℕ) → Shape p c k cost key → holds b cost key ≡ true
     → (j : ℕ) → j < 8 → sectionAt p c key j ≡ member (oAt p c j) (k j)
-shape-at p c P0 b B0 k cost key C h j l = ap (valOf (oAt p c j)) (C .key-is j l) ∙ rank-back (oAt p c j) (k j) (o-lt p c j P0) rank4
-  where
-    rank4 : markK (oAt p c j) (k j) ≤ 4
-    rank4 = weight-le (markK (oAt p c j) (k j)) (rank-lt (oAt p c j) (k j))
-        (le-trans (term-le (λ j. sq (markK (oAt p c j) (k j))) 8 j l) (le-trans (le-of-eq (sym (C .cost-is))) (le-trans (holds-le b cost key h) B0)))
+shape-at p c P0 b B0 k cost key C h j l =
+    ap (valOf (oAt p c j)) (C .key-is j l)
+    ∙ rank-back (oAt p c j) (k j) (o-lt p c j P0) (ranks-le (λ j. markK (oAt p c j) (k j)) b B0 cost key (C .cost-is) h j l)

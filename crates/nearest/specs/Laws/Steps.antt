@@ -1,4 +1,4 @@
--- Candidates made by the loops: all eight at their slots, then one or two coordinates stepped.
+-- Candidates made by the loops: all eight at their slots, then one coordinate stepped.
 use mathlib.Core.Path.{_≡_, sym, ap, subst}
 use mathlib.Core.Logic.{_≢_}
 use mathlib.Core.List.{List}

@@ -1,23 +1,24 @@
--- The facts of the search's constant tables that the theorem asks for, by computed tests. Assumes nothing.
+-- The facts of the search's constant tables that the theorem asks for, the branches by a computed test, the fallbacks as members of
+-- their regions. Assumes nothing.
 use mathlib.Core.Path.{_≡_, refl, sym, ap, _∙_, subst}
-use mathlib.Core.Bool.{Bool, true, false, _&&_, _||_}
+use mathlib.Core.Bool.{Bool, _&&_}
 use Prim.Native.Nat.{ℕ, _+_, _*_, _/_, _%_, _<_}
 use native.Mathlib.Nat.{le-refl, mod-lt, zero-lt-suc, mul-comm}
 use native.Mathlib.Omega.{arith}
 use lib.Dec.{T, ltb, eqb, ltb→lt, eqb→eq, lit≤}
 use lib.ListN.{getD, length}
-use Rattle.laws.specs.Tests.{upto, below, and-left, and-right, split3}
+use Rattle.laws.specs.Tests.{and-left, and-right}
 use Rattle.laws.specs.Tables.{every2, at2}
-use Rattle.rank.specs.Coord.{valOf}
+use Rattle.rank.specs.Vector.{unpack}
+use Rattle.rank.specs.Laws.Vector.{unpack-at, below-at}
 use Rattle.trellis.specs.Tables.{prefixes, middles, nexts, suffixes}
 use Rattle.trellis.specs.Trellis.{prefixOf, middleOf, nextOf, suffixOf}
 use Rattle.trellis.specs.Laws.Path.{row-at, prefix-lt, middle-lt, next-lt}
-use Rattle.search.specs.Tables.{tables, endByte, fallbackAt, middleSets, branchEntries, fallbackBytes, fallbackKeys}
-use Rattle.search.specs.Entries.{rankAt}
-use Rattle.nearest.specs.Laws.Forms.{sumTo, parK}
-use Rattle.nearest.specs.Laws.Keys.{kAt}
-use Rattle.nearest.specs.Laws.Shape.{oAt}
-use Rattle.nearest.specs.Laws.Entries.{EndByte}
+use Rattle.search.specs.Tables.{tables, middleSets, branchEntries}
+use Rattle.fallbacks.specs.Region.{InRegion, byteOf, keyOf}
+use Rattle.fallbacks.specs.Fallbacks.{fallback-least}
+use Rattle.fallbacks.specs.Laws.Member.{member-class, member-ranks, member-lt, member-even}
+use Rattle.nearest.specs.Laws.Packed.{key-class}
 use Rattle.nearest.specs.Laws.Winner.{GoodTables}
 use Rattle.nearest.specs.Laws.Premises.{MoreTables}
 use Rattle.nearest.specs.Laws.Sections.{Bytes}
@@ -81,57 +82,24 @@ tables-good =
           (and-right (ltb (getD branchEntries k 0) 128) (eqb (getD middleSets (getD branchEntries k 0) 0) (getD middles k 0)) (branch-at k h));
     }
 
--- ---- fallbacks: a byte of the state, ranks below 8, the class of the region
-abbrev byteOf : ℕ → ℕ → ℕ → ℕ → ℕ
-byteOf kind p r st = getD fallbackBytes (fallbackAt kind p r st) 0
-
-abbrev keyOf : ℕ → ℕ → ℕ → ℕ → ℕ
-keyOf kind p r st = getD fallbackKeys (fallbackAt kind p r st) 0
-
-ofState : ℕ → ℕ → ℕ → Bool
-ofState kind st c = eqb c (endByte tables kind st 0) || eqb c (endByte tables kind st 1)
-
-lowRanks : ℕ → Bool
-lowRanks key = upto 8 (λ (j : ℕ). ltb (rankAt key j) 8)
-
-inRegion : ℕ → ℕ → ℕ → ℕ → Bool
-inRegion p r c key = eqb (parK (λ j. kAt (oAt p c j) (rankAt key j)) 8) r
-
-least : ℕ → ℕ → ℕ → ℕ → Bool
-least kind p r st = ofState kind st (byteOf kind p r st) && (lowRanks (keyOf kind p r st) && inRegion p r (byteOf kind p r st) (keyOf kind p r st))
-
-all-least : T (upto 2 (λ kind. upto 2 (λ p. upto 2 (λ r. upto 64 (λ st. least kind p r st)))))
-unfolding least ofState lowRanks inRegion fallbackBytes fallbackKeys prefixes suffixes valOf sumTo
-all-least = tt
-
-least-at : (kind p r st : ℕ) → kind < 2 → p < 2 → r < 2 → st < 64
-    → T (ofState kind st (byteOf kind p r st)) × T (lowRanks (keyOf kind p r st)) × T (inRegion p r (byteOf kind p r st) (keyOf kind p r st))
-unfolding least
-least-at kind p r st a b c d =
-    split3 (ofState kind st (byteOf kind p r st)) (lowRanks (keyOf kind p r st)) (inRegion p r (byteOf kind p r st) (keyOf kind p r st))
-    (below 64 (λ st. least kind p r st)
-    (below 2 (λ r. upto 64 (λ st. least kind p r st))
-    (below 2 (λ p. upto 2 (λ r. upto 64 (λ st. least kind p r st)))
-    (below 2 (λ kind. upto 2 (λ p. upto 2 (λ r. upto 64 (λ st. least kind p r st)))) all-least kind a) p b) r c) st d)
-
-one-of : (c kind st : ℕ) → T (ofState kind st c) → EndByte tables kind st c
-unfolding ofState
-one-of c kind st t = go (eqb c (endByte tables kind st 0)) (eqb→eq c (endByte tables kind st 0)) t
-  where
-    go : (a : Bool) → (T a → c ≡ endByte tables kind st 0) → T (a || eqb c (endByte tables kind st 1)) → EndByte tables kind st c
-    go true p t = (0, lit≤ tt, p tt)
-    go false p t = (1, le-refl 2, eqb→eq c (endByte tables kind st 1) t)
+-- ---- fallbacks: members of their regions, so a byte of the state, ranks below 8, the class of the region
+pub entry-in : (kind p r st : ℕ) → kind < 2 → p < 2 → r < 2 → st < 64 → InRegion kind r st (byteOf kind p r st) (keyOf kind p r st)
+entry-in kind p r st a b c d = fallback-least kind p r st a b c d .member
 
 pub tables-more : MoreTables tables
-unfolding lowRanks inRegion
 tables-more =
     record {
       cost0 = lit≤ tt;
       cost1 = le-refl 96;
       costM = lit≤ tt;
-      fb-byte = λ kind p r st a b c d. one-of (byteOf kind p r st) kind st (least-at kind p r st a b c d .0);
+      fb-byte = λ kind p r st a b c d. let m = entry-in kind p r st a b c d in (m .b, m .b-lt, m .byte);
       fb-rank = λ kind p r st j a b c d h.
-          ltb→lt (rankAt (keyOf kind p r st) j) 8
-          (below 8 (λ (j : ℕ). ltb (rankAt (keyOf kind p r st) j) 8) (least-at kind p r st a b c d .1) j h);
-      fb-class = λ kind p r st a b c d. eqb→eq _ _ (least-at kind p r st a b c d .2);
+          let key = keyOf kind p r st in
+          subst (λ (n : ℕ). n < 8) (unpack-at 8 key j h)
+          (below-at 8 (unpack 8 key) (member-ranks kind r st _ key c (entry-in kind p r st a b c d)) j h);
+      fb-class = λ kind p r st a b c d.
+          let m = entry-in kind p r st a b c d in
+          key-class p (byteOf kind p r st) (keyOf kind p r st) b (member-lt kind r st _ _ c m) (member-even kind r st _ _ c m d)
+          (member-ranks kind r st _ _ c m)
+          ∙ member-class kind r st _ _ c m;
     }

@@ -1,5 +1,5 @@
 -- Values that are no NaN and not minus infinity, and the statement that one is at most B units of 2 ^ -2148.
-use mathlib.Core.Path.{_≡_, refl, sym, _∙_, subst}
+use mathlib.Core.Path.{_≡_, refl, sym, ap, _∙_, subst}
 use mathlib.Core.Logic.{_⊎_, inl, inr}
 use mathlib.Core.Bool.{Bool, true, false}
 use Prim.Native.Nat.{ℕ, _+_, _*_, _≤_}
@@ -113,3 +113,20 @@ add-inf-r x a = go x (a .fin)
     go nan h = absurd h
     go (inf s) h = absurd h
     go (fin s m e) h = unfold add in refl
+
+-- ---- a sum of three values, each infinite or known to be finite: it is infinite, or they are all finite
+abbrev pub sum3 : Float → Float → Float → Float
+sum3 x y z = add binary64 (add binary64 x y) z
+
+pub either-num : {A : Type 0} {x : Float} → (A → Plain x) → (x ≡ infinity) ⊎ A → Num x
+either-num f (inl e) = inl e
+either-num f (inr a) = inr (f a)
+
+module _ {A B C : Type 0} (x y z : Float) (f : A → Plain x) (g : B → Plain y) (h : C → Plain z) (fg : A → B → Plain (add binary64 x y)) where
+  pub sum3-case : (x ≡ infinity) ⊎ A → (y ≡ infinity) ⊎ B → (z ≡ infinity) ⊎ C → (sum3 x y z ≡ infinity) ⊎ (A × B × C)
+  sum3-case (inl e) b c =
+      inl (ap (λ (v : Float). sum3 v y z) e ∙ ap (λ (v : Float). add binary64 v z) (add-inf-l y (either-num g b)) ∙ add-inf-l z (either-num h c))
+  sum3-case (inr a) (inl e) c =
+      inl (ap (λ (v : Float). sum3 x v z) e ∙ ap (λ (v : Float). add binary64 v z) (add-inf-r x (f a)) ∙ add-inf-l z (either-num h c))
+  sum3-case (inr a) (inr b) (inl e) = inl (ap (λ (v : Float). sum3 x y v) e ∙ add-inf-r (add binary64 x y) (fg a b))
+  sum3-case (inr a) (inr b) (inr c) = inr (a, b, c)

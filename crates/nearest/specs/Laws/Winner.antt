@@ -1,7 +1,7 @@
 -- The winner of a parity is a lattice point whose cost is near its distance; with y's entries it costs no more than y.
 use mathlib.Core.Path.{_≡_, sym, ap, _∙_, subst}
 use mathlib.Core.Logic.{_⊎_, inl, inr}
-use mathlib.Core.Bool.{true, false}
+use mathlib.Core.Bool.{true}
 use mathlib.Core.List.{List}
 use Prim.Native.Nat.{ℕ, _+_, _*_, _/_, _%_, _^_, _≤_, _<_}
 use native.Mathlib.Nat.{le-refl, lt-of-le-of-lt, mod-lt, zero-lt-suc}
@@ -22,8 +22,8 @@ use Rattle.search.specs.declared.Way.{Way}
 use Rattle.search.specs.declared.Winner.{Winner}
 use Rattle.search.specs.Solve.{infinity}
 use Rattle.nearest.specs.Laws.Lattice.{Sec, Point, dist8, dist24}
-use Rattle.nearest.specs.Laws.Under.{Num, Plain, Under, near-num, near-under, under-near, under-more, add-inf-l, add-inf-r}
-use Rattle.nearest.specs.Laws.Entries.{ES, Room, Good, Final, EndByte, final-num}
+use Rattle.nearest.specs.Laws.Under.{Num, Plain, Under, near-under, under-near, under-more, clash, sum3, either-num, sum3-case}
+use Rattle.nearest.specs.Laws.Entries.{ES, Room, Good, Final, EndByte}
 use Rattle.nearest.specs.Laws.Pass.{AllFinal, AllMine, MidByte}
 use Rattle.nearest.specs.Laws.Operations.{H, near-plus}
 use Rattle.nearest.specs.Laws.Join.{Seen, join-seen, join-under}
@@ -66,60 +66,44 @@ pub end-rest : (q x : ℕ) → x < 64 → (q % 2 * 64 + x) % 64 ≡ x
 end-rest q x h = omega arith
 
 -- ---- a path of three entries
-abbrev sum3 : Entry → Entry → Entry → Float
-sum3 a b c = add binary64 (add binary64 (a .value) (b .value)) (c .value)
-
 abbrev pub secOf : ℕ → Entry → ℕ → ℤ
 secOf p e = sectionAt p (e .byte) (e .key)
 
-plain2 : {P Q : ℕ → Type 0} {p r d : ℕ} (t : Targets) (a b : Entry) → Good P p r (t .t1) a → Good Q p d (t .t2) b
-    → Plain (add binary64 (a .value) (b .value))
-plain2 {p = p} t a b x y =
-    let d1 = dist8 (secOf p a) (t .t1) in
-    let d2 = dist8 (secOf p b) (t .t2) in
-    let n = near-plus (x .stands .near) (y .stands .near) (lt-of-le-of-lt (cap2 d1 d2 Room ES (x .stands .room) (y .stands .room)) (lit≤ tt)) in
-    record { fit = n .fit; fin = n .fin }
+abbrev cost3 : Entry → Entry → Entry → Float
+cost3 a b c = sum3 (a .value) (b .value) (c .value)
+
+plain : {P : ℕ → Type 0} {p r : ℕ} {ts : List Float} (e : Entry) → Good P p r ts e → Plain (e .value)
+plain e x = record { fit = x .stands .near .fit; fin = x .stands .near .fin }
+
+near2 : {P Q : ℕ → Type 0} {p r d : ℕ} (t : Targets) (a b : Entry) → Good P p r (t .t1) a → Good Q p d (t .t2) b
+    → Near U (add binary64 (a .value) (b .value)) (dist8 (secOf p a) (t .t1) + dist8 (secOf p b) (t .t2)) (0 + 0) (ES + ES + H)
+near2 {p = p} t a b x y =
+    near-plus (x .stands .near) (y .stands .near)
+    (lt-of-le-of-lt (cap2 (dist8 (secOf p a) (t .t1)) (dist8 (secOf p b) (t .t2)) Room ES (x .stands .room) (y .stands .room)) (lit≤ tt))
   where
     cap2 : (d1 d2 m e : ℕ) → d1 ≤ m → d2 ≤ m → d1 + 0 + e + (d2 + 0 + e) ≤ m + e + (m + e)
     cap2 d1 d2 m e h k = omega arith
 
 module _ {P Q R : ℕ → Type 0} {p r d s : ℕ} (t : Targets) (a b c : Entry) where
-  near3 : Good P p r (t .t1) a → Good Q p d (t .t2) b → Good R p s (t .t3) c → Near U (sum3 a b c) (dist24 t (secOf p a) (secOf p b) (secOf p c)) 0 EP
+  near3 : Good P p r (t .t1) a → Good Q p d (t .t2) b → Good R p s (t .t3) c
+      → Near U (cost3 a b c) (dist24 t (secOf p a) (secOf p b) (secOf p c)) 0 EP
   near3 x y z =
-      let d1 = dist8 (secOf p a) (t .t1) in
-      let d2 = dist8 (secOf p b) (t .t2) in
-      let d3 = dist8 (secOf p c) (t .t3) in
-      let n : Near U (add binary64 (a .value) (b .value)) (d1 + d2) (0 + 0) (ES + ES + H) =
-      near-plus (x .stands .near) (y .stands .near) (lt-of-le-of-lt (cap2 d1 d2 Room ES (x .stands .room) (y .stands .room)) (lit≤ tt)) in
-      near-more EP (near-plus n (z .stands .near)
-      (lt-of-le-of-lt (cap3 d1 d2 d3 Room ES H (x .stands .room) (y .stands .room) (z .stands .room)) (lit≤ tt))) (lit≤ tt)
+      near-more EP (near-plus (near2 t a b x y) (z .stands .near)
+      (lt-of-le-of-lt (cap3 (dist8 (secOf p a) (t .t1)) (dist8 (secOf p b) (t .t2)) (dist8 (secOf p c) (t .t3)) Room ES H (x .stands .room)
+      (y .stands .room) (z .stands .room)) (lit≤ tt))) (lit≤ tt)
     where
-      cap2 : (d1 d2 m e : ℕ) → d1 ≤ m → d2 ≤ m → d1 + 0 + e + (d2 + 0 + e) ≤ m + e + (m + e)
-      cap2 d1 d2 m e h k = omega arith
-
       cap3 : (d1 d2 d3 m e h : ℕ) → d1 ≤ m → d2 ≤ m → d3 ≤ m → d1 + d2 + (0 + 0) + (e + e + h) + (d3 + 0 + e) ≤ m + m + m + (e + e + h + e)
       cap3 d1 d2 d3 m e h x y z = omega arith
 
-  cost-case : Final P p r (t .t1) a → Final Q p d (t .t2) b → Final R p s (t .t3) c → (sum3 a b c ≡ infinity)
-      ⊎ (Good P p r (t .t1) a × Good Q p d (t .t2) b × Good R p s (t .t3) c)
-  cost-case (inl e) f h = inl (ap
-      (λ (x : Float). add binary64 (add binary64 x (b .value)) (c .value)) e
-      ∙ ap (λ (x : Float). add binary64 x (c .value)) (add-inf-l (b .value) (final-num b f)) ∙ add-inf-l (c .value) (final-num c h))
-  cost-case (inr x) (inl e) h = inl
-      (ap (λ (v : Float). add binary64 (add binary64 (a .value) v) (c .value)) e
-      ∙ ap (λ (v : Float). add binary64 v (c .value))
-      (add-inf-r (a .value) (record { fit = x .stands .near .fit; fin = x .stands .near .fin })) ∙ add-inf-l (c .value) (final-num c h))
-  cost-case (inr x) (inr y) (inl e) =
-      inl (ap (λ (v : Float). add binary64 (add binary64 (a .value) (b .value)) v) e
-      ∙ add-inf-r (add binary64 (a .value) (b .value)) (plain2 t a b x y))
-  cost-case (inr x) (inr y) (inr z) = inr (x, y, z)
+  cost-case : Final P p r (t .t1) a → Final Q p d (t .t2) b → Final R p s (t .t3) c
+      → (cost3 a b c ≡ infinity) ⊎ (Good P p r (t .t1) a × Good Q p d (t .t2) b × Good R p s (t .t3) c)
+  cost-case =
+      sum3-case (a .value) (b .value) (c .value) (plain a) (plain b) (plain c)
+      (λ x y. let n = near2 t a b x y in record { fit = n .fit; fin = n .fin })
 
-  cost-num : Final P p r (t .t1) a → Final Q p d (t .t2) b → Final R p s (t .t3) c → Num (sum3 a b c)
-  cost-num f h k = go (cost-case f h k)
-    where
-      go : (sum3 a b c ≡ infinity) ⊎ (Good P p r (t .t1) a × Good Q p d (t .t2) b × Good R p s (t .t3) c) → Num (sum3 a b c)
-      go (inl e) = inl e
-      go (inr q) = near-num (near3 (q .0) (q .1) (q .2))
+  cost-num : Final P p r (t .t1) a → Final Q p d (t .t2) b → Final R p s (t .t3) c → Num (cost3 a b c)
+  cost-num f h k =
+      either-num (λ q. let n = near3 (q .0) (q .1) (q .2) in record { fit = n .fit; fin = n .fin }) (cost-case f h k)
 
 final-good : {P : ℕ → Type 0} {p r : ℕ} {ts : List Float} (e : Entry) {B : ℕ} → Final P p r ts e → Under (e .value) B → Good P p r ts e
 final-good e (inl q) u = absurd (subst (λ (x : Float). T (finite x)) q (u .fin))
@@ -129,9 +113,6 @@ final-good e (inr a) u = a
 pub record Answer (g : Tables) (t : Targets) (p : ℕ) (w : Winner) : Type 0 where
   pub point : Point g p (secOf p (w .s1)) (secOf p (w .s2)) (secOf p (w .s3))
   pub near : Near U (w .cost) (dist24 t (secOf p (w .s1)) (secOf p (w .s2)) (secOf p (w .s3))) 0 EP
-
-no-way : false ≡ true → ⊥
-no-way q = subst T (sym q) tt
 
 module _ (g : Tables) (t : Targets) (p : ℕ) (P0 : p < 2) (G : GoodTables g) (s : Sides) (F : AllFinal g t p s) where
   m-lt : (i n : ℕ) → n < 32 → midAt g i n < 256
@@ -165,7 +146,7 @@ module _ (g : Tables) (t : Targets) (p : ℕ) (P0 : p < 2) (G : GoodTables g) (s
           × Good (MidByte g (midAt g i n)) p (midAt g i n % 2) (t .t2) (entAt (s .e2) (midAt g i n))
           × Good (EndByte g 1 (lastAt g p i n % 64)) p (lastAt g p i n / 64) (t .t3) (entAt (s .e3) (lastAt g p i n)))
           → Answer g t p (winnerOf p s (wayAt g p s i n))
-      go (inl e) = absurd (no-way (sym (ap finite e) ∙ f))
+      go (inl e) = absurd (clash f (ap finite e))
       go (inr q) =
           let a = q .0 in
           let b = q .1 in
@@ -205,7 +186,7 @@ module _ (g : Tables) (t : Targets) (p : ℕ) (P0 : p < 2) (G : GoodTables g) (s
   join-answer f = go (join-seen g p s way-num 128 (le-refl 128))
     where
       go : Seen g p s (joinTo g p s 128) → Answer g t p (winnerOf p s (joinTo g p s 128))
-      go (inl e) = absurd (no-way (sym (ap finite e) ∙ f))
+      go (inl e) = absurd (clash f (ap finite e))
       go (inr q) = subst (λ (w : Way). Answer g t p (winnerOf p s w)) (sym (q .4))
           (way-answer (q .0) (q .1) (q .2) (q .3) (sym (ap (λ (w : Way). finite (w .cost)) (q .4)) ∙ f))
 
