@@ -9,6 +9,7 @@ use lib.Dec.{T, eqb}
 use lib.ListN.{getD, length}
 use lib.IntN.{ℤ, pos}
 use Rattle.laws.specs.Lists.{filled, tab-length}
+use Rattle.laws.specs.Bits.{weight}
 use Rattle.rank.specs.Coord.{valOf}
 use Rattle.rank.specs.Vector.{ranksBelow, class, pack, unpack, inClass}
 use Rattle.rank.specs.Laws.Vector.{unpack-at, unpack-length, below-up}
@@ -17,7 +18,6 @@ use Rattle.rank.specs.Laws.Section.{point-bits, point-ranks, point-length}
 use Rattle.rows.specs.Table.{rowRanks}
 use Rattle.rows.specs.Laws.Rule.{row-class, row-ranks, row-packed, row-in}
 use Rattle.rows.specs.Laws.Places.{number-class}
-use Rattle.trellis.specs.Code.{weight}
 use Rattle.trellis.specs.Tables.{prefixes, suffixes}
 use Rattle.trellis.specs.Trellis.{prefixOf, suffixOf}
 use Rattle.trellis.specs.Laws.Code.{bytes-even}

@@ -10,10 +10,10 @@ use lib.Dec.{T, ltb, leb, eqb, ltb→lt, leb→le, eqb→eq}
 use lib.ListN.{getD, length}
 use Rattle.laws.specs.Tests.{true-is, or-cases, and-left, and-right}
 use Rattle.laws.specs.Order.{pick3, lexLe, pick3-lt, pick3-eq}
+use Rattle.laws.specs.Bits.{weight}
 use Rattle.rank.specs.Coord.{kOf}
 use Rattle.rank.specs.Vector.{sq, cost, class, unpack, ranksBelow, within, boundCost, boundCut, middleCost, middleCut, inClass, inMiddle}
 use Rattle.rank.specs.Laws.Vector.{rank-first, rank-rest, unpack-at, unpack-below}
-use Rattle.trellis.specs.Code.{weight}
 use Rattle.search.specs.declared.Closed.{Closed}
 use Rattle.search.specs.Bound.{holds, lexOf, lexNum}
 use Rattle.search.specs.Tables.{tables, classOf}
