@@ -5,7 +5,7 @@ use mathlib.Core.Path.{_≡_, sym, ap, _∙_}
 use mathlib.Core.List.{List}
 use Prim.Native.Nat.{ℕ, _-_, _≤_}
 use lib.ListN.{length, take, drop}
-use Rattle.page.specs.declared.line.Line.the-variants.{Good}
+use Rattle.page.specs.declared.line.Line.the-variants.{Good, Bad}
 use Rattle.page.specs.Text.{bytes}
 use Rattle.page.specs.Answer.{parsedOf}
 use Rattle.page.specs.Reader.{formatAt, decimalLineAt, numAt, countAt, wordsAt, readingOf}
@@ -79,8 +79,10 @@ one c = rw (first c) (ap numAt (sym (tail (text c) (n1 c))))
 returns-2 : tie.Need-returns-2
 unfolding parsedOf numAt
 returns-2 c =
-    let e = sym (c .before .before .before .decimal-line .ensures) ∙ c .before .enum-told2 .given .1 in
-    c .refused2 .ensures ∙ rw (one (c .before .before .before .before .before .before .before), e)
+    let i = c .before .before .before .before .before .before .before in
+    let e : decimalLineAt (bytes "num=") 1 65535 (part1 i) ≡ Bad =
+    sym (c .before .before .before .decimal-line .ensures) ∙ c .before .enum-told2 .given .1 in
+    c .refused2 .ensures ∙ rw (one i, e)
 
 -- ---- the num line is there
 abbrev behind-a : tie.After-num → tie.After-a
@@ -131,8 +133,10 @@ two c =
 returns-3 : tie.Need-returns-3
 unfolding parsedOf countAt
 returns-3 c =
-    let e = sym (c .before .before .before .decimal-line2 .ensures) ∙ c .before .enum-told3 .given .1 in
-    c .refused3 .ensures ∙ rw (two (c .before .before .before .before .before .before .before), e)
+    let i = c .before .before .before .before .before .before .before in
+    let e : decimalLineAt (bytes "count=") 0 64 (part2 i) ≡ Bad =
+    sym (c .before .before .before .decimal-line2 .ensures) ∙ c .before .enum-told3 .given .1 in
+    c .refused3 .ensures ∙ rw (two i, e)
 
 -- ---- the count line is there
 abbrev behind-num : tie.After-count → tie.After-num
