@@ -18,12 +18,14 @@ use Rattle.float.specs.Calls.{absOf, million64, quotientsOf}
 use Rattle.float.specs.Laws.Compare.{zero-lt}
 use Rattle.float.specs.Laws.Exact.{zero-fits}
 use Rattle.float.specs.Laws.Arithmetic.{div-fraction}
+use Rattle.float.specs.Laws.Near.{abs-upto}
+use Rattle.float.specs.Laws.Rounding.{million-units, million-fits}
 use Rattle.float.specs.Laws.Arrays.{quotients-length, quotients-at}
 use Rattle.score.specs.Samples.{exceeds, some, sampleNumber, isScale, orElse, scaleNumber}
 use Rattle.score.specs.Scale.{root24, largestOf, unitNorm, scaleWith, isNormal, lowerScale, choiceOf, firstScale, secondScale}
 use Rattle.score.specs.declared.Scales.{Scales}
 use Rattle.score.specs.declared.Choice.the-variants.{Zero, Scale, Divide}
-use Rattle.score.specs.Laws.Sample.{AllFit, Sample, each-at, exceeds-not, some-cons, samples-are}
+use Rattle.score.specs.Laws.Sample.{AllFit, Sample, each-at, some-cons, samples-are}
 use Rattle.members.specs.Accepted.{Accepted}
 
 -- ---- what the number 0 says at a scale
@@ -77,15 +79,6 @@ quotient-finite x s fx fs ix is p e =
     let f = div-fraction x s fx fs ix is (zero-lt s fs is p .1) in
     not-above (div binary64 x s) (subst (λ (q : Float). T (not (isNan q))) (sym (f .is)) (round-number _ (f .num) (f .den))) e
 
--- and of at most a million in size
-million-units : magUnits million64 ≡ 1000000 * U
-unfolding magUnits
-million-units = refl
-
-million-fits : T (fits binary64 million64)
-unfolding fits
-million-fits = tt
-
 -- ---- the quotients of an accepted call
 pub accepted : (x : List Float) (s : Float) → length x ≡ 24 → AllFit x → T (fits binary64 s) → scaleNumber x s ≡ 0 → Accepted (quotientsOf x s)
 accepted x s l f fs e =
@@ -97,7 +90,7 @@ accepted x s l f fs e =
       };
       low = λ j h. at j h (λ q. magUnits q ≤ 1000000 * U)
           (subst (λ (m : ℕ). magUnits (div binary64 (getD x j nan) s) ≤ m) million-units
-          (exceeds-not million64 (div binary64 (getD x j nan) s) million-fits tt refl (fit j) (fin' j h) (small j h)));
+          (abs-upto million64 (div binary64 (getD x j nan) s) million-fits tt refl (fit j) (fin' j h) (small j h)));
     }
   where
     says : T (isScale s) × (sampleNumber x ≡ 0) × (some (exceeds million64) (quotientsOf x s) ≡ false)
