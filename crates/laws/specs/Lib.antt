@@ -2,6 +2,7 @@ pub mod Tests
 pub mod Tables
 pub mod Trees
 pub mod Lists
+pub mod Filled
 pub mod Order
 pub mod Xor
 pub mod Whole
