@@ -1,1 +1,2 @@
+-- laws that only the proofs of this crate cite
 pub mod Values

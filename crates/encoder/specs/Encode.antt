@@ -37,7 +37,7 @@ settingFirst n k = cond (eqb n 0) 7 k
 abbrev pub answered : ℕ → Code → Code
 answered k c = cond (eqb k 0) c (emptyCode k)
 
--- `code_of`: the point of a winner, the word of that point, and the score
+-- `code_of`: the point of a winner, the word of that point (where the Rust packs the fields of the winner's path), and the score
 unfoldable pub codeOf : List Float → Winner → Code
 codeOf x w = record { number = 0; word = encodeOf (pointFrom w) .word; point = pointFrom w; score = tOf x (pointFrom w) }
 
@@ -50,10 +50,11 @@ codeFor ps x s n = codeOf x (winnerFor ps n (quotientsOf x s))
 abbrev pub numberAt : List Float → Float → ℕ → ℕ
 numberAt x s n = settingFirst n (scaleNumber x s)
 
+-- over the parities ps,
 unfoldable pub encodeAtOver : List ℕ → List Float → Float → ℕ → Code
 encodeAtOver ps x s n = answered (numberAt x s n) (codeFor ps x s n)
 
--- `encode_at_scale`
+-- and `encode_at_scale`, over both
 abbrev pub encodeAtScale : List Float → Float → ℕ → Code
 encodeAtScale x s n = encodeAtOver bothParities x s n
 
@@ -71,7 +72,7 @@ twoScales ps x s n = higher (codeFor ps x s n) (codeFor ps x (secondScale s) n)
 abbrev pub scaledBack : Float → Code → Code
 scaledBack m c = record { number = c .number; word = c .word; point = c .point; score = mul binary64 (c .score) m }
 
--- zeros score minus infinity
+-- zeros have the word 0 and score minus infinity; samples of a scale that is no normal number are divided first
 unfoldable pub codeAt : List ℕ → Choice → List Float → ℕ → Code
 codeAt ps Zero x n = zeroCode 0 (inf true)
 codeAt ps (Scale s) x n = twoScales ps x s n
@@ -82,10 +83,11 @@ codeAt ps (Divide m s) x n = scaledBack m (twoScales ps (quotientsOf x m) s n)
 abbrev pub numberOf : List Float → ℕ → ℕ
 numberOf x n = settingFirst n (sampleNumber x)
 
+-- over the parities ps,
 unfoldable pub encodeOver : List ℕ → List Float → ℕ → Code
 encodeOver ps x n = answered (numberOf x n) (codeAt ps (choiceOf x) x n)
 
--- the production call with a setting,
+-- the production call with a setting, over both,
 abbrev pub encodeWith : List Float → ℕ → Code
 encodeWith x n = encodeOver bothParities x n
 

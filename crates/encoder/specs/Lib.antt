@@ -1,2 +1,3 @@
+-- what the calls answer; their numbers
 pub mod Encode
 pub mod Numbers

@@ -1,3 +1,3 @@
+-- laws that only the proofs of this crate cite
 pub mod Rows
-pub mod Ranges
 pub mod Paths

@@ -12,8 +12,8 @@ use Rattle.search.specs.Tables.{tables}
 use Rattle.search.specs.Solve.{infinity}
 use Rattle.search.specs.Join.{Sides, midAt, lastAt, entAt, wayAt, keep, rowTo, joinTo}
 use Rattle.search.specs.Parity.{lower, boundBy, boundsTo}
+use Rattle.join.specs.Laws.{InRange, mid-lt, last-lt}
 use Rattle.join.specs.Inner.{ValuesOf, ExactsOf}
-use Rattle.join.proofs.Ranges.{InRange, mid-lt, last-lt}
 
 -- the way through three entries
 abbrev pub wayBy : List Float → List Float → List Float → ℕ → ℕ → ℕ → Way

@@ -1,2 +1,4 @@
+-- theorems
+pub mod Laws
 -- what the private functions say to each other
 pub mod Inner

@@ -16,7 +16,7 @@ use Rattle.search.specs.Tables.{tables}
 use Rattle.search.specs.Entries.{Rule}
 use Rattle.search.specs.Join.{Sides, entAt, noEntry, join, allExact}
 use Rattle.search.specs.Parity.{Targets, Seed, solved1, solved2, solved3, starts, lower, seeded, seedBy, seedTo, boundsTo, closed, closing, parity}
-use Rattle.join.proofs.Ranges.{in-join}
+use Rattle.join.specs.Laws.{in-join}
 use Rattle.resolve.specs.Flat.{closedWith}
 use Rattle.parity.specs.declared.Head.{Head}
 use Rattle.parity.specs.Inner.{firstStart, midStarts, lastStart, headBy, headOf, Kept, Resolved}

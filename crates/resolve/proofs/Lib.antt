@@ -1,2 +1,2 @@
-pub mod Made
+-- laws that only the proofs of this crate cite
 pub mod Answers

@@ -1,13 +1,12 @@
 -- `encoder::trio` meets its contract. The invariant: the places before j are filled. Assumes nothing.
-use mathlib.Core.Path.{_≡_, ap}
+use mathlib.Core.Path.{ap}
 use mathlib.Core.List.{List}
-use Prim.Native.Nat.{ℕ, _-_, _<_, _≤_}
-use native.Mathlib.Nat.{not-suc-le-zero}
+use Prim.Native.Nat.{ℕ, _-_}
 use native.Mathlib.Omega.{arith}
 use borrow.Author.Needs.{needs}
-use lib.ListN.{length, getD, length-set}
+use lib.ListN.{getD}
 use lib.Ieee.{Float, nan}
-use Rattle.laws.specs.Lists.{filled-more, filled}
+use Rattle.laws.specs.Filled.{Filled, fill-none, fill-more, fill-all}
 use Rattle.trellis.specs.Laws.Trio.{trio-fits}
 use Rattle.search.specs.Block.{coordinate}
 use Rattle.encoder.proofs.trio.Statement.{statement}
@@ -17,13 +16,13 @@ abbrev at : List Float → ℕ → Float
 at t k = getD t (coordinate k) nan
 
 abbrev Inv-loop : tie.InvT-loop
-Inv-loop t out₀ j₀ out j = (j ≤ 24) × (length out ≡ 24) × ((k : ℕ) → k < j → getD out k nan ≡ at t k)
+Inv-loop t out₀ j₀ out j = Filled nan (at t) 24 j out
 
 abbrev μ-loop : tie.MeasureT-loop
 μ-loop t out₀ j₀ out j = 24 - j
 
 loop-holds : tie.Need-loop-holds Inv-loop μ-loop
-loop-holds c = (omega arith, search needs, λ k h. absurd (not-suc-le-zero h))
+loop-holds c = fill-none _ _ 24 _ (search needs)
 
 order-requires : tie.Need-order-requires Inv-loop μ-loop
 order-requires c κs = search needs
@@ -48,17 +47,11 @@ loop-less c = search needs
 
 loop-again : tie.Need-loop-again Inv-loop μ-loop
 loop-again c =
-    let l = c .before .before .loop in
-    let t = c .before .before .before .args .t1 in (
-      omega arith,
-      simp length-set (l .inv .1),
-      filled-more Float nan (at t) (l .out) (l .j) _ (omega arith) (ap (λ (i : ℕ). getD t i nan) (c .order .ensures)) (l .inv .2),
-    )
+    fill-more (c .before .before .loop .inv) (omega arith)
+    (ap (λ (i : ℕ). getD (c .before .before .before .args .t1) i nan) (c .order .ensures))
 
 returns : tie.Need-returns Inv-loop μ-loop
-returns c =
-    let l = c .before .loop in
-    filled Float nan 24 (at (c .before .before .args .t1)) (l .out) (l .inv .1) (λ k h. l .inv .2 k (omega arith))
+returns c = fill-all (c .before .loop .inv) (omega arith)
 
 pub trio-spec : {M : Type 1} → statement M
 trio-spec =

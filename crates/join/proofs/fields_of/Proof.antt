@@ -1,43 +1,40 @@
 -- `join::fields_of` meets its contract. The invariant: the places of the first i end entries, and of twice as many middle ones, are filled.
 -- Assumes nothing.
+use mathlib.Core.Path.{refl}
 use mathlib.Core.Bool.{Bool, false}
 use mathlib.Core.List.{List}
-use Prim.Native.Nat.{ℕ, _≤_, _-_, _*_}
+use Prim.Native.Nat.{ℕ, _-_, _*_}
 use native.Mathlib.Omega.{arith}
 use borrow.Author.Needs.{needs}
 use lib.Ieee.{Float, nan}
+use Rattle.laws.specs.Filled.{Filled, fill-none, fill-more}
 use Rattle.search.specs.declared.Entry.{Entry}
-use Rattle.join.proofs.Rows.{Row, row-none, row-more, row-two}
+use Rattle.search.specs.Join.{entAt}
+use Rattle.join.proofs.Rows.{fill-two}
 use Rattle.join.proofs.fields_of.Statement.{statement}
 use Rattle.join.proofs.fields_of.Tie as tie
 
 abbrev Values : List Entry → ℕ → ℕ → List Float → Type 0
-Values = Row Float nan (λ (x : Entry). x .value)
+Values e n i v = Filled nan (λ (k : ℕ). entAt e k .value) n i v
 
 abbrev Exacts : List Entry → ℕ → ℕ → List Bool → Type 0
-Exacts = Row Bool false (λ (x : Entry). x .exact)
+Exacts e n i x = Filled false (λ (k : ℕ). entAt e k .exact) n i x
 
 abbrev Inv-loop : tie.InvT-loop
 Inv-loop e1 e2 e3 v1₀ v2₀ v3₀ x1₀ x2₀ x3₀ i₀ v1 v2 v3 x1 x2 x3 i =
-    (i ≤ 128) × (Values e1 128 i v1 × (Values e2 256 (2 * i) v2 × (Values e3 128 i v3
-    × (Exacts e1 128 i x1 × (Exacts e2 256 (2 * i) x2 × Exacts e3 128 i x3)))))
+    Values e1 128 i v1 × Values e2 256 (2 * i) v2 × Values e3 128 i v3 × Exacts e1 128 i x1 × Exacts e2 256 (2 * i) x2 × Exacts e3 128 i x3
 
 abbrev μ-loop : tie.MeasureT-loop
 μ-loop e1 e2 e3 v1₀ v2₀ v3₀ x1₀ x2₀ x3₀ i₀ v1 v2 v3 x1 x2 x3 i = 128 - i
 
 loop-holds : tie.Need-loop-holds Inv-loop μ-loop
 loop-holds c = (
-  omega arith,
-  (
-    row-none _ _ _ _ _ _ (search needs),
-    (
-      row-none _ _ _ _ _ _ (search needs),
-      (
-        row-none _ _ _ _ _ _ (search needs),
-        (row-none _ _ _ _ _ _ (search needs), (row-none _ _ _ _ _ _ (search needs), row-none _ _ _ _ _ _ (search needs))),
-      ),
-    ),
-  ),
+  fill-none _ _ _ _ (search needs),
+  fill-none _ _ _ _ (search needs),
+  fill-none _ _ _ _ (search needs),
+  fill-none _ _ _ _ (search needs),
+  fill-none _ _ _ _ (search needs),
+  fill-none _ _ _ _ (search needs),
 )
 
 mul-m : tie.Need-mul-m Inv-loop μ-loop
@@ -114,43 +111,30 @@ loop-less c = search needs
 
 loop-again : tie.Need-loop-again Inv-loop μ-loop
 loop-again c =
-    let a = c .before .before .before .before .before .before .args in
-    let l = c .before .before .before .before .before .loop in
-    let h = l .inv .1 in (
-      omega arith,
-      (
-        row-more _ _ _ (a .t1) 128 _ (l .i) (omega arith) (h .0),
-        (
-          row-two _ _ _ (a .t2) 256 _ (l .i) (omega arith) (h .1 .0),
-          (
-            row-more _ _ _ (a .t3) 128 _ (l .i) (omega arith) (h .1 .1 .0),
-            (
-              row-more _ _ _ (a .t1) 128 _ (l .i) (omega arith) (h .1 .1 .1 .0),
-              (
-                row-two _ _ _ (a .t2) 256 _ (l .i) (omega arith) (h .1 .1 .1 .1 .0),
-                row-more _ _ _ (a .t3) 128 _ (l .i) (omega arith) (h .1 .1 .1 .1 .1),
-              ),
-            ),
-          ),
-        ),
-      ),
+    let l = c .before .before .before .before .before .loop in (
+      fill-more (l .inv .0) (omega arith) refl,
+      fill-two (l .i) (l .inv .1) (omega arith) refl refl,
+      fill-more (l .inv .2) (omega arith) refl,
+      fill-more (l .inv .3) (omega arith) refl,
+      fill-two (l .i) (l .inv .4) (omega arith) refl refl,
+      fill-more (l .inv .5) (omega arith) refl,
     )
 
 returns : tie.Need-returns Inv-loop μ-loop
 returns c =
-    let h = c .before .loop .inv .1 in
+    let h = c .before .loop .inv in
     record {
       values =
           record {
             first = λ k l. h .0 .held k (omega arith);
-            mid = λ k l. h .1 .0 .held k (omega arith);
-            last = λ k l. h .1 .1 .0 .held k (omega arith);
+            mid = λ k l. h .1 .held k (omega arith);
+            last = λ k l. h .2 .held k (omega arith);
           };
       exacts =
           record {
-            first = λ k l. h .1 .1 .1 .0 .held k (omega arith);
-            mid = λ k l. h .1 .1 .1 .1 .0 .held k (omega arith);
-            last = λ k l. h .1 .1 .1 .1 .1 .held k (omega arith);
+            first = λ k l. h .3 .held k (omega arith);
+            mid = λ k l. h .4 .held k (omega arith);
+            last = λ k l. h .5 .held k (omega arith);
           };
     }
 

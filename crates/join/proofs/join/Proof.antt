@@ -3,7 +3,7 @@ use Prim.Native.Nat.{_%_}
 use native.Mathlib.Omega.{arith}
 use borrow.Author.Needs.{needs}
 use Rattle.search.specs.Join.{Sides}
-use Rattle.join.proofs.Ranges.{in-join}
+use Rattle.join.specs.Laws.{in-join}
 use Rattle.join.proofs.join.Statement.{statement}
 use Rattle.join.proofs.join.Tie as tie
 

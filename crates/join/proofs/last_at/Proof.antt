@@ -1,7 +1,7 @@
 -- `join::last_at` meets its contract. Assumes nothing.
 use native.Mathlib.Omega.{arith}
 use borrow.Author.Needs.{needs}
-use Rattle.join.proofs.Ranges.{state-lt}
+use Rattle.join.specs.Laws.{state-lt}
 use Rattle.join.proofs.last_at.Statement.{statement}
 use Rattle.join.proofs.last_at.Tie as tie
 

@@ -1,7 +1,7 @@
 -- `join::mid_at` meets its contract. Assumes nothing.
 use native.Mathlib.Omega.{arith}
 use borrow.Author.Needs.{needs}
-use Rattle.join.proofs.Ranges.{entry-lt}
+use Rattle.join.specs.Laws.{entry-lt}
 use Rattle.join.proofs.mid_at.Statement.{statement}
 use Rattle.join.proofs.mid_at.Tie as tie
 

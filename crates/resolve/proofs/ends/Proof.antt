@@ -2,14 +2,15 @@
 use Prim.Native.Nat.{_-_}
 use native.Mathlib.Omega.{arith}
 use borrow.Author.Needs.{needs}
+use Rattle.laws.specs.Filled.{Filled, fill-none, fill-more, fill-all}
+use Rattle.search.specs.Join.{noEntry}
 use Rattle.resolve.specs.Flat.{startWith}
 use Rattle.resolve.proofs.Answers.{of-bases}
-use Rattle.resolve.proofs.Made.{Made, made-none, made-more, made-all}
 use Rattle.resolve.proofs.ends.Statement.{statement}
 use Rattle.resolve.proofs.ends.Tie as tie
 
 abbrev Inv-loop : tie.InvT-loop
-Inv-loop bytes pairs fall out₀ i₀ out i = Made 128 i (startWith pairs bytes fall) out
+Inv-loop bytes pairs fall out₀ i₀ out i = Filled noEntry (startWith pairs bytes fall) 128 i out
 
 abbrev μ-loop : tie.MeasureT-loop
 μ-loop bytes pairs fall out₀ i₀ out i = 128 - i
@@ -18,7 +19,7 @@ infeasible-requires : tie.Need-infeasible-requires Inv-loop μ-loop
 infeasible-requires c κs = search needs
 
 loop-holds : tie.Need-loop-holds Inv-loop μ-loop
-loop-holds c = made-none 128 _ _ (search needs)
+loop-holds c = fill-none _ _ 128 _ (search needs)
 
 mul-f : tie.Need-mul-f Inv-loop μ-loop
 mul-f c = search needs
@@ -86,11 +87,11 @@ loop-less c = search needs
 loop-again : tie.Need-loop-again Inv-loop μ-loop
 loop-again c =
     let l = c .before .before .before .before .before .before .before .before .before .loop in
-    made-more (l .inv) (omega arith)
+    fill-more (l .inv) (omega arith)
     (of-bases _ _ _ (c .before .before .before .before .of-parity .ensures) (c .before .before .before .of-parity2 .ensures) (c .end-start .ensures))
 
 returns : tie.Need-returns Inv-loop μ-loop
-returns c = made-all (c .before .loop .inv) (omega arith)
+returns c = fill-all (c .before .loop .inv) (omega arith)
 
 pub ends-spec : {M : Type 1} → statement M
 ends-spec =

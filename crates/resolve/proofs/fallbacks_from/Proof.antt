@@ -2,13 +2,14 @@
 use Prim.Native.Nat.{ℕ, _+_, _-_}
 use native.Mathlib.Omega.{arith}
 use borrow.Author.Needs.{needs}
+use Rattle.laws.specs.Filled.{Filled, fill-none, fill-more, fill-all}
+use Rattle.search.specs.Join.{noEntry}
 use Rattle.resolve.specs.Flat.{fallbackIn}
-use Rattle.resolve.proofs.Made.{Made, made-none, made-more, made-all}
 use Rattle.resolve.proofs.fallbacks_from.Statement.{statement}
 use Rattle.resolve.proofs.fallbacks_from.Tie as tie
 
 abbrev Inv-loop : tie.InvT-loop
-Inv-loop bytes keys points from t out₀ i₀ out i = Made 128 i (λ (k : ℕ). fallbackIn bytes keys points t (from + k)) out
+Inv-loop bytes keys points from t out₀ i₀ out i = Filled noEntry (λ (k : ℕ). fallbackIn bytes keys points t (from + k)) 128 i out
 
 abbrev μ-loop : tie.MeasureT-loop
 μ-loop bytes keys points from t out₀ i₀ out i = 128 - i
@@ -17,7 +18,7 @@ infeasible-requires : tie.Need-infeasible-requires Inv-loop μ-loop
 infeasible-requires c κs = search needs
 
 loop-holds : tie.Need-loop-holds Inv-loop μ-loop
-loop-holds c = made-none 128 _ _ (search needs)
+loop-holds c = fill-none _ _ 128 _ (search needs)
 
 add-fallback : tie.Need-add-fallback Inv-loop μ-loop
 add-fallback c = search needs
@@ -38,10 +39,10 @@ loop-less : tie.Need-loop-less Inv-loop μ-loop
 loop-less c = search needs
 
 loop-again : tie.Need-loop-again Inv-loop μ-loop
-loop-again c = made-more (c .before .before .loop .inv) (omega arith) (c .fallback .ensures)
+loop-again c = fill-more (c .before .before .loop .inv) (omega arith) (c .fallback .ensures)
 
 returns : tie.Need-returns Inv-loop μ-loop
-returns c = made-all (c .before .loop .inv) (omega arith)
+returns c = fill-all (c .before .loop .inv) (omega arith)
 
 pub fallbacks-from-spec : {M : Type 1} → statement M
 fallbacks-from-spec =

@@ -2,13 +2,14 @@
 use Prim.Native.Nat.{_-_}
 use native.Mathlib.Omega.{arith}
 use borrow.Author.Needs.{needs}
+use Rattle.laws.specs.Filled.{Filled, fill-none, fill-more, fill-all}
+use Rattle.search.specs.Join.{noEntry}
 use Rattle.resolve.specs.Flat.{midStartWith}
-use Rattle.resolve.proofs.Made.{Made, made-none, made-more, made-all}
 use Rattle.resolve.proofs.mids.Statement.{statement}
 use Rattle.resolve.proofs.mids.Tie as tie
 
 abbrev Inv-loop : tie.InvT-loop
-Inv-loop sets pairs out₀ i₀ out i = Made 256 i (midStartWith pairs sets) out
+Inv-loop sets pairs out₀ i₀ out i = Filled noEntry (midStartWith pairs sets) 256 i out
 
 abbrev μ-loop : tie.MeasureT-loop
 μ-loop sets pairs out₀ i₀ out i = 256 - i
@@ -17,7 +18,7 @@ infeasible-requires : tie.Need-infeasible-requires Inv-loop μ-loop
 infeasible-requires c κs = search needs
 
 loop-holds : tie.Need-loop-holds Inv-loop μ-loop
-loop-holds c = made-none 256 _ _ (search needs)
+loop-holds c = fill-none _ _ 256 _ (search needs)
 
 mul-q : tie.Need-mul-q Inv-loop μ-loop
 mul-q c = search needs
@@ -44,10 +45,10 @@ loop-less : tie.Need-loop-less Inv-loop μ-loop
 loop-less c = search needs
 
 loop-again : tie.Need-loop-again Inv-loop μ-loop
-loop-again c = made-more (c .before .before .before .before .loop .inv) (omega arith) (c .mid-start .ensures)
+loop-again c = fill-more (c .before .before .before .before .loop .inv) (omega arith) (c .mid-start .ensures)
 
 returns : tie.Need-returns Inv-loop μ-loop
-returns c = made-all (c .before .loop .inv) (omega arith)
+returns c = fill-all (c .before .loop .inv) (omega arith)
 
 pub mids-spec : {M : Type 1} → statement M
 mids-spec =
