@@ -163,7 +163,7 @@ pub fn join(p: u32, e1: [Entry; 128], e2: [Entry; 256], e3: [Entry; 128]) -> Way
     ensures { λ r. ⌜ (r ≡ join tables (p % 2) (record { e1 = e1; e2 = e2; e3 = e3 })) × ((r .i1 < 128) × ((r .i2 < 256) × (r .i3 < 128))) ⌝ }
 {
     let ix = tables::branch_entries();
-    let nx = tables::next_states();
+    let nx = trellis::nexts();
     let f = fields_of(e1, e2, e3);
     let v1 = f.v1;
     let v2 = f.v2;
@@ -227,7 +227,7 @@ pub fn bounds(p: u32, e1: [Entry; 128], e2: [Entry; 256], e3: [Entry; 128], u: f
     ensures { λ r. ⌜ r ≡ boundsTo tables (p % 2) (record { e1 = e1; e2 = e2; e3 = e3 }) u 4096 ⌝ }
 {
     let ix = tables::branch_entries();
-    let nx = tables::next_states();
+    let nx = trellis::nexts();
     let f = fields_of(e1, e2, e3);
     let v1 = f.v1;
     let v2 = f.v2;

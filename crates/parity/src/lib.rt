@@ -187,9 +187,9 @@ fn pass(
         (endWith tables (solveIn (now (g3 .entry)) (now (d3 .entry)) (now (w3 .entry)) (now (k3 .entry)) (now (o3 .entry)) (now (v3 .entry)))
         suffixes fall3 (ruleOf setting .ends)) (p % 2) (record { sides = record { e1 = e1; e2 = e2; e3 = e3 }; u = u0 }) ⌝ }
 {
-    let pre = resolve::prefixes();
+    let pre = trellis::prefixes();
     let sets = resolve::middle_sets();
-    let suf = resolve::suffixes();
+    let suf = trellis::suffixes();
     let n = ends_of(setting);
     let m = mids_of(setting);
     let h = lead(p, e1, e2, e3);
@@ -248,7 +248,7 @@ fn last(
     let k3 = r.rank;
     let o3 = r.odd;
     let v3 = r.up;
-    let suf = resolve::suffixes();
+    let suf = trellis::suffixes();
     let fall3 = resolve::fallbacks(1, p, t3);
     let e3 = end_starts(&g3, &d3, &w3, &k3, &o3, &v3, &suf, fall3);
     pass(
@@ -346,7 +346,7 @@ pub fn parity(p: u32, t1: [f64; 8], t2: [f64; 8], t3: [f64; 8], u0: f64, setting
     let k = r.rank;
     let o = r.odd;
     let v = r.up;
-    let pre = resolve::prefixes();
+    let pre = trellis::prefixes();
     let fall = resolve::fallbacks(0, p, t1);
     let e = end_starts(&g, &d, &w, &k, &o, &v, &pre, fall);
     middle(p, &g, &d, &w, &k, &o, &v, fall, e, t2, t3, u0, setting)

@@ -6,7 +6,6 @@ ghost use lib.IntN.{pos};
 ghost use lib.ListN.{getD};
 ghost use lib.Ieee.{lt, binary64, mul, sub};
 ghost use Rattle.laws.specs.Lists.{tab};
-ghost use Rattle.trellis.specs.Tables as trellis;
 ghost use Rattle.search.specs.Tables as lists;
 ghost use Rattle.search.specs.Tables.{tables, classOf};
 ghost use Rattle.search.specs.Entries as search;
@@ -22,19 +21,7 @@ use solve::Pair;
 
 mod tables;
 
-// ---- the bytes of the three sections
-pub fn prefixes() -> [u8; 128]
-    ensures { λ r. ⌜ r ≡ trellis.prefixes ⌝ }
-{
-    tables::prefixes()
-}
-
-pub fn suffixes() -> [u8; 128]
-    ensures { λ r. ⌜ r ≡ trellis.suffixes ⌝ }
-{
-    tables::suffixes()
-}
-
+// The eight sets of sixteen middle bytes.
 pub fn middle_sets() -> [u8; 128]
     ensures { λ r. ⌜ r ≡ lists.middleSets ⌝ }
 {

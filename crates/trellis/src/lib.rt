@@ -6,6 +6,7 @@ ghost use Prim.Native.Nat.{_≤_};
 ghost use lib.ListN.{length, getD};
 ghost use Rattle.trellis.specs.Code.{wordOf, columns, inputOf};
 ghost use Rattle.trellis.specs.Trio.{order, places};
+ghost use Rattle.trellis.specs.Tables as tables;
 ghost use Rattle.trellis.specs.Trellis.{
   prefixOf,
   branchOf,
@@ -164,6 +165,27 @@ pub fn suffix(s16: usize, b3: usize) -> u8
         return 0;
     }
     table::SUFFIXES[2 * s16 + b3]
+}
+
+// The tables whole, for a search that reads them again and again: a constant array is made anew wherever it is read. The prefixes at 2 s8 + b1,
+pub fn prefixes() -> [u8; 128]
+    ensures { λ r. ⌜ r ≡ tables.prefixes ⌝ }
+{
+    table::PREFIXES
+}
+
+// the states at cut 16 that the branches lead to, at 16 s8 + b2,
+pub fn nexts() -> [u8; 1024]
+    ensures { λ r. ⌜ r ≡ tables.nexts ⌝ }
+{
+    table::NEXTS
+}
+
+// and the suffixes at 2 s16 + b3.
+pub fn suffixes() -> [u8; 128]
+    ensures { λ r. ⌜ r ≡ tables.suffixes ⌝ }
+{
+    table::SUFFIXES
 }
 
 // ---- the ways back, as enums where the Rust has an Option

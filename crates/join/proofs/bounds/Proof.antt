@@ -6,8 +6,8 @@ use Rattle.join.proofs.bounds.Tie as tie
 branch-entries-requires : tie.Need-branch-entries-requires
 branch-entries-requires c κs = search needs
 
-next-states-requires : tie.Need-next-states-requires
-next-states-requires c κs = search needs
+nexts-requires : tie.Need-nexts-requires
+nexts-requires c κs = search needs
 
 fields-of-requires : tie.Need-fields-of-requires
 fields-of-requires c κs = search needs
@@ -26,4 +26,4 @@ returns c =
     c .bounds-over .ensures (record { e1 = s .e1; e2 = s .e2; e3 = s .e3 }) (f .fields-of .ensures .values) (f .fields-of .ensures .exacts)
 
 pub bounds-spec : {M : Type 1} → statement M
-bounds-spec = tie.close (tie.spec branch-entries-requires next-states-requires fields-of-requires cast-bounds-over bounds-over-requires returns)
+bounds-spec = tie.close (tie.spec branch-entries-requires nexts-requires fields-of-requires cast-bounds-over bounds-over-requires returns)

@@ -10,8 +10,8 @@ use Rattle.join.proofs.join.Tie as tie
 branch-entries-requires : tie.Need-branch-entries-requires
 branch-entries-requires c κs = search needs
 
-next-states-requires : tie.Need-next-states-requires
-next-states-requires c κs = search needs
+nexts-requires : tie.Need-nexts-requires
+nexts-requires c κs = search needs
 
 fields-of-requires : tie.Need-fields-of-requires
 fields-of-requires c κs = search needs
@@ -31,4 +31,4 @@ returns c =
     (q, rw q (in-join (s .p % 2) e 128 (omega arith)))
 
 pub join-spec : {M : Type 1} → statement M
-join-spec = tie.close (tie.spec branch-entries-requires next-states-requires fields-of-requires cast-best-way best-way-requires returns)
+join-spec = tie.close (tie.spec branch-entries-requires nexts-requires fields-of-requires cast-best-way best-way-requires returns)
