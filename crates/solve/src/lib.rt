@@ -461,7 +461,7 @@ fn none() -> Best
     ensures { λ r. ⌜ r ≡ unmet ⌝ }
 {
     Best {
-        d: f64::from_bits(0x7ff0_0000_0000_0000),
+        d: search::infinite(),
         key: 0,
         met: false,
     }

@@ -1,16 +1,13 @@
--- `solve::none` meets its contract. The bits are those of the infinity. Assumes nothing.
-use lib.Ieee.{nanBits, ofBits}
-use mathlib.Core.Path.{refl}
+-- `solve::none` meets its contract. Assumes nothing.
+use borrow.Author.Needs.{needs}
 use Rattle.solve.proofs.none.Statement.{statement}
 use Rattle.solve.proofs.none.Tie as tie
 
-float-from-bits-t1 : tie.Need-float-from-bits-t1
-unfolding nanBits
-float-from-bits-t1 c = tt
+infinite-requires : tie.Need-infinite-requires
+infinite-requires c κs = search needs
 
 returns : tie.Need-returns
-unfolding ofBits
-returns c = refl
+returns c = rw (c .infinite .ensures)
 
 pub none-spec : {M : Type 1} → statement M
-none-spec = tie.close (tie.spec float-from-bits-t1 returns)
+none-spec = tie.close (tie.spec infinite-requires returns)
