@@ -8,7 +8,7 @@ use Prim.Native.Nat.{ℕ}
 use lib.Dec.{T}
 use lib.ListN.{length}
 use lib.Ieee.{Float, binary64, fits}
-use Rattle.score.specs.Laws.Sample.{AllFit}
+use Rattle.score.specs.Samples.{AllFit}
 use Rattle.search.specs.Parity.{bothParities}
 use Rattle.members.specs.Members.{has-word}
 use Rattle.encoder.specs.Encode.{numberAt, encodeAtScale, numberOf, encodeWith}

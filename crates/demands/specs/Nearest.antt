@@ -13,8 +13,7 @@ use Rattle.tetra.specs.Lattice.{LatticePoint, HasWord}
 use Rattle.float.specs.Value.{one64}
 use Rattle.float.specs.Calls.{quotientsOf}
 use Rattle.float.specs.Distance.{sqDist, margin}
-use Rattle.score.specs.Samples.{scaleNumber}
-use Rattle.score.specs.Laws.Sample.{AllFit}
+use Rattle.score.specs.Samples.{AllFit, scaleNumber}
 use Rattle.search.specs.Parity.{bothParities}
 use Rattle.search.specs.Block.{winnerFor, pointFrom}
 use Rattle.encoder.specs.Encode.{numberAt, encodeAtScale}

@@ -8,11 +8,10 @@ use native.Mathlib.Omega.{arith}
 use borrow.Author.Tests.{ne-eqb}
 use lib.ListN.{length}
 use lib.Ieee.{Float}
-use Rattle.score.specs.Samples.{sampleNumber, scaleNumber}
+use Rattle.score.specs.Samples.{AllFit, sampleNumber, scaleNumber}
 use Rattle.score.specs.Scale.{choiceOf, secondScale}
 use Rattle.score.specs.declared.Choice.{Choice}
 use Rattle.score.specs.declared.Choice.the-variants.{Zero, Scale}
-use Rattle.score.specs.Laws.Sample.{AllFit}
 use Rattle.score.specs.Laws.Quotient.{KeepsBoth, choice-keeps}
 use Rattle.encoder.specs.Encode.{numberAt, encodeAtOver, higher, twoScales, codeAt, numberOf}
 use Rattle.encoder.specs.Numbers.{zero-says, at-accepted, is-accepted}

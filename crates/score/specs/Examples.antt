@@ -13,10 +13,9 @@ use Rattle.float.specs.Calls.{absOf, million64, quotientsOf, sumFrom}
 use Rattle.float.specs.Laws.Exact.{some-digits}
 use Rattle.root.specs.Root.{wholeRoot, rootUnits, rootOf, rooted}
 use Rattle.score.specs.declared.Choice.the-variants.{Zero, Scale, Divide}
-use Rattle.score.specs.Samples.{limit64, some, sampleNumber, scaleNumber}
+use Rattle.score.specs.Samples.{AllFit, limit64, some, sampleNumber, scaleNumber}
 use Rattle.score.specs.Score.{products, doublesOf, tOf}
 use Rattle.score.specs.Scale.{alpha64, ratio64, leastNormal64, root24, largestFrom, unitNorm, lowerScale, choiceOf}
-use Rattle.score.specs.Laws.Sample.{AllFit}
 use Rattle.score.specs.Laws.Quotient.{KeepsBoth, choice-keeps, zero-choice}
 
 -- ---- each constant is the double nearest to its decimal

@@ -2,12 +2,17 @@
 use mathlib.Core.Bool.{Bool, false, cond, not, _&&_, _||_}
 use mathlib.Core.List.{List, [], _∷_}
 use Prim.Native.Nat.{ℕ}
-use lib.Dec.{eqb}
+use lib.Dec.{T, eqb}
+use lib.ListN.{getD}
 use lib.IntN.{pos}
-use lib.Ieee.{Float, fin, lt}
+use lib.Ieee.{Float, fin, nan, binary64, fits, lt}
 use lib.Ieee.Scale.{finite}
 use Rattle.float.specs.Value.{zero64}
 use Rattle.float.specs.Calls.{absOf, million64, quotientsOf}
+
+-- an array of doubles as a list: each is one that the format holds
+abbrev pub AllFit : List Float → Type 0
+AllFit xs = (k : ℕ) → T (fits binary64 (getD xs k nan))
 
 -- the double nearest 1e290: 5776622002767455 * 2 ^ 911, bits 0x7c24_85ce_9e7a_065f
 abbrev pub limit64 : Float

@@ -14,11 +14,10 @@ use Rattle.tetra.specs.Demand2.{accepts, round-trip}
 use Rattle.tetra.specs.Points.{P}
 use Rattle.float.specs.Calls.{quotientsOf}
 use Rattle.float.specs.Laws.Arrays.{quotients-length}
-use Rattle.score.specs.Samples.{sampleNumber, scaleNumber}
+use Rattle.score.specs.Samples.{AllFit, sampleNumber, scaleNumber}
 use Rattle.score.specs.Scale.{choiceOf, firstScale, secondScale}
 use Rattle.score.specs.declared.Choice.{Choice}
 use Rattle.score.specs.declared.Choice.the-variants.{Zero, Scale, Divide}
-use Rattle.score.specs.Laws.Sample.{AllFit}
 use Rattle.score.specs.Laws.Quotient.{Keeps, KeepsBoth, choice-keeps}
 use Rattle.search.specs.declared.Winner.{Winner}
 use Rattle.search.specs.Block.{winnerFor, pointFrom}

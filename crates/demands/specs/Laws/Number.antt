@@ -21,11 +21,11 @@ use Rattle.float.specs.Laws.Arithmetic.{div-fraction}
 use Rattle.float.specs.Laws.Near.{abs-upto}
 use Rattle.float.specs.Laws.Rounding.{million-units, million-fits}
 use Rattle.float.specs.Laws.Arrays.{quotients-length, quotients-at}
-use Rattle.score.specs.Samples.{exceeds, some, sampleNumber, isScale, orElse, scaleNumber}
+use Rattle.score.specs.Samples.{AllFit, exceeds, some, sampleNumber, isScale, orElse, scaleNumber}
 use Rattle.score.specs.Scale.{root24, largestOf, unitNorm, scaleWith, isNormal, lowerScale, choiceOf, firstScale, secondScale}
 use Rattle.score.specs.declared.Scales.{Scales}
 use Rattle.score.specs.declared.Choice.the-variants.{Zero, Scale, Divide}
-use Rattle.score.specs.Laws.Sample.{AllFit, Sample, each-at, some-cons, samples-are}
+use Rattle.score.specs.Laws.Sample.{Sample, each-at, some-cons, samples-are}
 use Rattle.members.specs.Accepted.{Accepted}
 
 -- ---- what the number 0 says at a scale

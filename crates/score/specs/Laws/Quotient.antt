@@ -38,7 +38,7 @@ use Rattle.float.specs.Laws.Arrays.{quotients-length, quotients-at}
 use Rattle.score.specs.declared.Scales.{Scales}
 use Rattle.score.specs.declared.Choice.{Choice}
 use Rattle.score.specs.declared.Choice.the-variants.{Zero, Scale, Divide}
-use Rattle.score.specs.Samples.{limit64, sampleNumber, scaleNumber}
+use Rattle.score.specs.Samples.{AllFit, limit64, sampleNumber, scaleNumber}
 use Rattle.score.specs.Scale.{
   leastNormal64,
   largestOf,
@@ -53,7 +53,6 @@ use Rattle.score.specs.Scale.{
   secondScale,
 }
 use Rattle.score.specs.Laws.Sample.{
-  AllFit,
   UpTo,
   Each,
   none,

@@ -14,11 +14,7 @@ use Rattle.float.specs.Value.{U, magUnits}
 use Rattle.float.specs.Calls.{million64, quotientsOf}
 use Rattle.float.specs.Laws.Near.{abs-upto, upto-abs}
 use Rattle.float.specs.Laws.Rounding.{million-fits, million-units}
-use Rattle.score.specs.Samples.{limit64, unbounded, exceeds, some, sampleNumber, isScale, scaleNumber}
-
--- ---- doubles as an array holds them
-abbrev pub AllFit : List Float → Type 0
-AllFit xs = (k : ℕ) → T (fits binary64 (getD xs k nan))
+use Rattle.score.specs.Samples.{AllFit, limit64, unbounded, exceeds, some, sampleNumber, isScale, scaleNumber}
 
 -- a finite double of at most g units
 pub record UpTo (g : ℕ) (x : Float) : Type 0 where

@@ -43,9 +43,9 @@ use Rattle.float.specs.Laws.Relative.{mul-close}
 use Rattle.root.specs.Root.{rooted}
 use Rattle.root.specs.Nearest.{rooted-nearest}
 use Rattle.root.specs.Laws.{root-from}
-use Rattle.score.specs.Samples.{limit64, sampleNumber}
+use Rattle.score.specs.Samples.{AllFit, limit64, sampleNumber}
 use Rattle.score.specs.Score.{products, dotOf, doublesOf, scoreOf, tOf}
-use Rattle.score.specs.Laws.Sample.{AllFit, UpTo, Each, none, more, Sample, samples-are}
+use Rattle.score.specs.Laws.Sample.{UpTo, Each, none, more, Sample, samples-are}
 use Rattle.score.specs.Laws.Largest.{Plain, above-zero}
 use Rattle.score.specs.Laws.Scale.{at-least, cancel}
 
