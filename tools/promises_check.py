@@ -3,24 +3,27 @@
 
     python3 tools/promises_check.py [FILE]
 
-FILE is docs/PROMISES.md where none is given. Prints a line for each thing that is missing and ends with status 1,
-or prints how much it looked at and ends with status 0. What it takes for what:
+FILE is docs/PROMISES.md where none is given. Prints a line for each thing that is missing and ends with
+status 1, or prints how much it looked at and ends with status 0. What it takes for what:
 
-  gate: CRATE/LABEL, ..        an edit of crates/CRATE/must-fail
-  outside: CRATE/LABEL, ..     an edit of edits/CRATE
-  CRATE/LABEL elsewhere        is an error where CRATE is a crate: it does not say where the edit stands
-  word/specs/Laws              a file or folder below crates/, with or without .antt or .rt
-  (Laws/Path, Code)            in brackets: the same below CRATE/specs of the file named before, or of the section's
-                               line 'Files below CRATE/specs'
-  docs/.., tools/.., ..        a path from the root of the repository
-  `name` .. (FILE, ..)         the name is declared in one of the files, or in src/ of their crates
-  `name`                       with no file behind it in its item: declared somewhere in crates/
-  `crate::name`, `name`        a function, struct, enum or constant in src/ of that crate, and so the names behind it
-  ```antt FILE                 the block stands in FILE word by word; a line '..' leaves something out
+  gate: CRATE/LABEL, ..      an edit of crates/CRATE/must-fail
+  outside: CRATE/LABEL, ..   an edit of edits/CRATE
+  CRATE/LABEL elsewhere      an error where CRATE is a crate: it does not say where the edit stands
+  word/specs/Laws            a file or folder below crates/, with or without .antt or .rt
+  (Laws/Path, Code)          in brackets: the same below CRATE/specs of the file named before, or of the
+                             section's line 'Files below CRATE/specs'
+  docs/.., tools/.., ..      a path from the root of the repository
+  `name` .. (FILE, ..)       the name is declared in one of the files, or in src/ of their crates
+  `name`                     with no file behind it in its item: declared somewhere in crates/
+  `crate::name`, `name`      a function, struct, enum or constant in src/ of that crate, and so the names
+                             behind it
+  ```antt FILE               the block stands in FILE word by word; a line '..' leaves something out
 
-An item is a paragraph, a point of a list or a row of a table; the files of a row are those of all its columns.
-Text between <!-- and -->, and between the marks of the trusted list, is passed over. Besides, each public function
-of the crates has to be named by the first lines of two edits or more, of code and not of a definition."""
+An item is a paragraph, a point of a list or a row of a table; the files of a row are those of all its
+columns. Text between <!-- and -->, and between the marks of the trusted list, is passed over.
+
+Besides, each public function of the crates has to be named by the first lines of two edits or more, of
+code and not of a definition."""
 import os
 import re
 import sys
@@ -73,7 +76,7 @@ class Tree:
 
     def files(self, short):
         """The files that a name such as word/specs/Laws, word/src/lib.rt or page/specs stands for."""
-        path = os.path.join(ROOT, short if short.split('/')[0] in TOP else os.path.join('crates', short))
+        path = os.path.join(ROOT, '' if short.split('/')[0] in TOP else 'crates', short)
         found = [p for p in (path, path + '.antt', path + '.rt') if os.path.isfile(p)]
         if os.path.isdir(path):
             found += below(path, ('.antt', '.rt'))
@@ -90,7 +93,7 @@ class Tree:
 
 
 def items(text):
-    """(number of the first line, text) of each paragraph, point of a list, row of a table and quoted block."""
+    """(number of the first line, text) of each paragraph, heading, point, row and quoted block."""
     out, block, start, fence = [], [], 0, False
     for number, line in enumerate(text.split('\n'), 1):
         if line.startswith('```'):
@@ -116,8 +119,8 @@ def items(text):
 
 
 def short_paths(text, last):
-    """The file names in a piece of text, and CRATE/specs of the last one: in brackets and in rows a name may leave
-    that out."""
+    """The file names in a piece of text, and CRATE/specs of the last one, which a name in brackets or in a
+    row may leave out."""
     found, short = [], text.startswith(('(', '|'))
     for word in re.findall(r'(?<![\w/`:.])(?:[\w.-]+(?:/[\w.-]+)+|[A-Z]\w+(?=[,;)]))', text):
         word = word.rstrip('.')
@@ -133,7 +136,7 @@ def short_paths(text, last):
 
 
 def edit_lists(text):
-    """(where, CRATE/LABEL) of each edit that the text names after gate: or outside:, and the text without them."""
+    """(where, CRATE/LABEL) of each edit named after gate: or outside:, and the text without them."""
     found = []
 
     def take(match):
@@ -159,9 +162,9 @@ def check_edits(text, number, report):
     found, rest = edit_lists(text)
     for where, edit in found:
         crate, label = edit.split('/')
-        folder = os.path.join('crates', crate, 'must-fail') if where == 'gate' else os.path.join('edits', crate)
-        report.look('edits', os.path.isfile(os.path.join(ROOT, folder, label + '.edit')), number,
-                    'no edit %s/%s.edit' % (folder, label))
+        path = 'crates/%s/must-fail/%s.edit' if where == 'gate' else 'edits/%s/%s.edit'
+        path = path % (crate, label)
+        report.look('edits', os.path.isfile(os.path.join(ROOT, path)), number, 'no edit ' + path)
     for crate, label in re.findall(r'(?<![\w/])([a-z_0-9]+)/([a-z_0-9]+)(?![\w/.])', rest):
         if crate in CRATES and label not in FOLDERS:
             report.look('edits', False, number, '%s/%s: gate or outside?' % (crate, label))
@@ -234,7 +237,7 @@ def check_calls(tree, report):
             crate = os.path.relpath(path, os.path.join(ROOT, 'crates')).split(os.sep)[0]
             for name in re.findall(r'^\s*pub (?:extern "C" )?fn (\w+)', read(path), re.M):
                 count = named.get((crate, name), 0)
-                report.look('calls', count >= 2, 0, '%s::%s is named by %d edits, not by two or more' % (crate, name, count))
+                report.look('calls', count >= 2, 0, '%s::%s: %d edits, not two' % (crate, name, count))
 
 
 def main(words):
@@ -243,12 +246,12 @@ def main(words):
         return 0 if words and words[0] in ('-h', '--help') else 2
     path = words[0] if words else os.path.join(ROOT, 'docs', 'PROMISES.md')
     if not os.path.isfile(path):
-        print('promises_check: no file %s. Wanted: python3 tools/promises_check.py [FILE]' % path, file=sys.stderr)
+        print('promises_check: no file %s. Wanted: python3 tools/promises_check.py [FILE]' % path,
+              file=sys.stderr)
         return 2
     text = read(path)
-    blank = lambda m: re.sub(r'[^\n]', '', m.group(0))
-    text = re.sub(r'<!-- trusted: begin -->.*?<!-- trusted: end -->', blank, text, flags=re.S)
-    text = re.sub(r'<!--.*?-->', blank, text, flags=re.S)
+    for passed in (r'<!-- trusted: begin -->.*?<!-- trusted: end -->', r'<!--.*?-->'):
+        text = re.sub(passed, lambda m: '\n' * m.group(0).count('\n'), text, flags=re.S)
     tree, report, base = Tree(), Report(), None
     for number, item in items(text):
         if item.startswith('#'):
@@ -262,7 +265,8 @@ def main(words):
     check_calls(tree, report)
     for line in report.missing:
         print(line)
-    print('%d missing; looked at %s' % (len(report.missing), ', '.join('%d %s' % (n, k) for k, n in report.seen.items())))
+    seen = ', '.join('%d %s' % (count, kind) for kind, count in report.seen.items())
+    print('%d missing; looked at %s' % (len(report.missing), seen))
     return 1 if report.missing else 0
 
 
