@@ -165,7 +165,7 @@ def check_edits(text, number, report):
         path = 'crates/%s/must-fail/%s.edit' if where == 'gate' else 'edits/%s/%s.edit'
         path = path % (crate, label)
         report.look('edits', os.path.isfile(os.path.join(ROOT, path)), number, 'no edit ' + path)
-    for crate, label in re.findall(r'(?<![\w/])([a-z_0-9]+)/([a-z_0-9]+)(?![\w/.])', rest):
+    for crate, label in re.findall(r'(?<![\w/])([a-z_0-9]+)/([a-z_0-9]+)(?![\w/]|\.\w)', rest):
         if crate in CRATES and label not in FOLDERS:
             report.look('edits', False, number, '%s/%s: gate or outside?' % (crate, label))
     return rest
