@@ -23,7 +23,7 @@ An item is a paragraph, a point of a list or a row of a table; the files of a ro
 columns. Text between <!-- and -->, and between the marks of the trusted list, is passed over.
 
 Besides, each public function of the crates has to be named by the first lines of two edits or more, of
-code and not of a definition."""
+code and not of a definition; those of crate promise, which only make the calls of the others, need none."""
 import os
 import re
 import sys
@@ -233,8 +233,8 @@ def check_calls(tree, report):
             call = (crate, name.split('::')[-1])
             named[call] = named.get(call, 0) + 1
     for path in tree.names:
-        if path.endswith('.rt'):
-            crate = os.path.relpath(path, os.path.join(ROOT, 'crates')).split(os.sep)[0]
+        crate = os.path.relpath(path, os.path.join(ROOT, 'crates')).split(os.sep)[0]
+        if path.endswith('.rt') and crate != 'promise':
             for name in re.findall(r'^\s*pub (?:extern "C" )?fn (\w+)', read(path), re.M):
                 count = named.get((crate, name), 0)
                 report.look('calls', count >= 2, 0, '%s::%s: %d edits, not two' % (crate, name, count))
