@@ -111,6 +111,7 @@ def document():
     check("document: the columns", columns == own.COLUMNS, columns)
     weights = [sum(c.bit_count() == w for c in own.labels()) for w in (0, 8, 12, 16, 24)]
     check("document: 4,096 codewords and their weights", len(own.labels()) == 4096 and weights == [1, 759, 2576, 759, 1], weights)
+    check("document: the trellis", trellis_fine())
     ranks = [whole(row[1:]) for row in table_rows(text, "| rank | 0 |")]
     check("document: ranks", ranks == [list(range(8))] + own.MEMBERS, ranks)
     bounds = [(int(row[1]), tuple(whole(row[2].split(",")))) for row in table_rows(text, "| rows | bound's cost |")[1:]]
@@ -118,6 +119,23 @@ def document():
     document_rows(text)
     document_example(text)
     document_points(text)
+
+
+def trellis_fine():
+    """Of each state s8: two first bytes and, behind each middle byte, two last bytes, complements of each other, the smaller one at bit 0; the
+    middle bytes ascend with b2; and the states ascend with their smallest codeword."""
+    fine, smallest, ends = True, [], set()
+    for s8 in range(64):
+        c = [[[own.codeword(s8 + 64 * b1 + 128 * b2 + 2048 * b3) for b3 in (0, 1)] for b2 in range(16)] for b1 in (0, 1)]
+        firsts = [{w % 256 for pair in c[b1] for w in pair} for b1 in (0, 1)]
+        middles = [{w // 256 % 256 for b1 in (0, 1) for w in c[b1][b2]} for b2 in range(16)]
+        lasts = [[{c[b1][b2][b3] // 65536 for b1 in (0, 1)} for b3 in (0, 1)] for b2 in range(16)]
+        fine = fine and all(len(s) == 1 for s in firsts + middles + [s for pair in lasts for s in pair])
+        pairs = [[min(s) for s in pair] for pair in [firsts] + lasts]
+        fine = fine and all(a + b == 255 and a < b for a, b in pairs) and [min(s) for s in middles] == sorted(min(s) for s in middles)
+        smallest.append(min(w for half in c for pair in half for w in pair))
+        ends |= {a for a, _ in pairs[1:]}
+    return fine and smallest == sorted(smallest) and len(ends) == 64
 
 
 def document_rows(text):
