@@ -1,4 +1,7 @@
 // The rounding records of a section, and the same as flat rows: `Tables::build` of the Rust's encoder.rs.
+// The idea: all that the search asks of a coordinate is worked out once per section and parity, for 8
+// shrinks, 8 coordinates and 2 pattern bits. The records are then laid out field by field as flat rows, which
+// the crates above read in place.
 ghost use mathlib.Core.Path.{_≡_};
 ghost use mathlib.Core.Bool.{cond};
 ghost use Prim.Native.Nat.{_<_, _≤_, _+_, _%_};

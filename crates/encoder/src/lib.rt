@@ -1,4 +1,7 @@
 // Samples to codes: the public calls of the sample encoder, `code_of`, `encode_at_scale`, `two_scales` and `encode` of encoder.rs.
+// The idea: samples are divided by a scale, the point is searched for at the quotients (crate parity), and
+// the code is that point, its word and its score. Refusals are tested before anything is searched. `encode`
+// works out the scale itself, tries it and 1.14 times it, and keeps the code that scores higher.
 ghost use mathlib.Core.Path.{_≡_};
 ghost use Prim.Native.Nat.{_+_, _<_, _≤_, ℕ};
 ghost use lib.ListN.{getD};

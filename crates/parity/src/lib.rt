@@ -1,6 +1,10 @@
 // One block parity, and the best of both at one scale: `solve_parity` and the loop of `encode_at_scale` of the Rust's encoder.rs. The rows of a
 // section (crate coord) are lent as six arrays: its regrets g, distances d, weights w, ranks k, the parities o of its roundings, and whether each
 // target lies above its rounding, v.
+// The idea: every entry starts from its bases, which are cheap. At most two seed joins look for a real path;
+// one pass over all paths says which entries may lie on a cheaper one, and only those are resolved; then the
+// last join. Parity 1 has to beat the cost that parity 0 has found. docs/ALGORITHM.md says why nothing is
+// lost.
 ghost use mathlib.Core.Path.{_≡_};
 ghost use mathlib.Core.Bool.{cond};
 ghost use Prim.Native.Nat.{ℕ, _%_};

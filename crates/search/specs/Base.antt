@@ -1,4 +1,8 @@
 -- The base of a pattern for one parity of the sum of k: `base_pair` of encoder.rs. Definitions only.
+-- The idea: without the bound, the nearest vector of a pattern and class is found at once. Round every
+-- coordinate; if the sum of k has the wrong parity, step the coordinate whose rounding is least sure, where
+-- that costs least. A base within the bound answers its section; the distance of any other is a lower bound
+-- on what the section can have.
 use mathlib.Core.Bool.{Bool, true, false, cond}
 use mathlib.Core.List.{List, [], _∷_}
 use Prim.Native.Nat.{ℕ, zero, suc, _+_, _-_, _*_, _%_, _^_}

@@ -1,5 +1,7 @@
 -- A block of 24 at one scale: what goes into the search and what comes out, as in `encode_at_scale` and `code_of` of encoder.rs. Definitions
 -- only.
+-- The idea: on the way in, 24 quotients are put into trio order and cut into three sections; on the way out,
+-- the winner's three sections are put back into one point.
 use mathlib.Core.Bool.{cond}
 use mathlib.Core.List.{List}
 use Prim.Native.Nat.{ℕ, _+_, _-_}

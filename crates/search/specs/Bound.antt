@@ -1,4 +1,7 @@
 -- A closed bound on packed rows: `Closed::holds` and `lex` of encoder.rs. Definitions only.
+-- The idea: the rows are the first vectors of an order, so whether a vector has a row is one comparison with
+-- the last of them. The order begins at coordinate 0, and a packed row has that one lowest, so ranks are read
+-- the other way round.
 use mathlib.Core.Bool.{Bool, _&&_, _||_}
 use mathlib.Core.List.{List, [], _∷_}
 use Prim.Native.Nat.{ℕ, _+_, _*_}

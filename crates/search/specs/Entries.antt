@@ -1,4 +1,7 @@
 -- The entries of the join: `end_resolve`, `mid_resolve` and the first part of `solve_parity` of encoder.rs. Definitions only.
+-- The idea: an entry is what the join knows of a section. An end has one for each class and state, the middle
+-- one for each byte and class. It starts with what is cheap, bases and fallback: exact where the nearest of
+-- them has a row, else a lower bound. Resolved in full, it has run the candidate rule and is exact.
 use mathlib.Core.Bool.{Bool, true, false, cond, _&&_}
 use mathlib.Core.List.{List, [], _∷_}
 use Prim.Native.Nat.{ℕ, zero, suc, _+_, _*_, _/_, _%_, _^_}

@@ -1,4 +1,6 @@
 -- The best path by the entries' values: `join` of encoder.rs. Definitions only.
+-- The idea: three sections make a point where their states and classes fit, which they do along 4,096 paths.
+-- A path costs the sum of its three entries, and the first of the cheapest wins.
 use mathlib.Core.Bool.{Bool, true, false, cond, _&&_}
 use mathlib.Core.List.{List, [], _∷_}
 use Prim.Native.Nat.{ℕ, zero, suc, _+_, _*_, _/_, _%_}

@@ -1,3 +1,4 @@
+-- docs/ALGORITHM.md tells the search in words
 -- the search of encoder.rs, from one coordinate up to a block: what a reader has to believe
 pub mod Record
 pub mod Bound

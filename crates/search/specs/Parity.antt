@@ -1,4 +1,8 @@
 -- One block parity, and the best of the parities searched: `solve_parity` and the loop of `encode_at_scale` of encoder.rs. Definitions only.
+-- The idea: most entries need no full search. At most two seed joins look for a real path, of cost u. A pass
+-- over all paths then says which of the entries that are mere lower bounds may lie on a cheaper one. Those
+-- are resolved late and the others dropped: no path through them costs less than u. docs/ALGORITHM.md says
+-- why nothing is lost.
 use mathlib.Core.Bool.{Bool, true, false, cond, not, _&&_, _||_}
 use mathlib.Core.List.{List, [], _∷_}
 use Prim.Native.Nat.{ℕ, zero, suc, _+_, _*_, _/_, _%_}

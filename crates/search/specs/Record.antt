@@ -1,5 +1,8 @@
 -- The rounding record of a coordinate: `Coord` and `Tables::build` of encoder.rs, float operation by float operation. Definitions only.
 -- In these files every loop is a recursion on the turns done, every array a list, every `if` a `cond`.
+-- The idea: the search asks the same of each coordinate again and again: between which numbers o + 4k its
+-- target lies, what the five nearest of them weigh, how far away they are. So that is worked out once, for
+-- each shrink and for both bits that a byte can have there. What follows only picks and adds.
 use mathlib.Core.Bool.{Bool, true, false, cond}
 use mathlib.Core.List.{List, [], _∷_}
 use Prim.Native.Nat.{ℕ, zero, suc, _+_, _*_, _/_, _%_, _^_}

@@ -1,4 +1,7 @@
 -- The candidate rule for one pattern and one parity of the sum of k: `solve` of encoder.rs. Definitions only.
+-- The idea: a base that has no row lies too far out. So vectors beside it are tried, two coordinates stepped
+-- at a time so that the class stays, and then the same about targets drawn toward zero, whose vectors are
+-- cheaper. Kept is the nearest one within the bound, by its distance to the target itself.
 use mathlib.Core.Bool.{Bool, true, false, cond, _&&_}
 use mathlib.Core.List.{List, [], _∷_}
 use Prim.Native.Nat.{ℕ, zero, suc, _+_, _-_, _*_, _/_, _%_, _^_}

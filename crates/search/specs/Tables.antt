@@ -1,5 +1,8 @@
 -- The constant tables that the search walks. The trellis' own are those of trellis.rs; the others are made from them by `Encoder::with_rule`
 -- of encoder.rs: the eight sets of middle bytes, the middle entry of each branch, and the point of least norm of each end region.
+-- The idea of the sets: the sixteen middle bytes out of a state are one of eight sets, and eight states share
+-- each. So a middle byte is searched once per class, as one entry, and not once for each state that leads to
+-- it.
 use mathlib.Core.Bool.{cond}
 use mathlib.Core.List.{List, [], _∷_}
 use Prim.Native.Nat.{ℕ, _+_, _*_}

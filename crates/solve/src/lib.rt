@@ -1,6 +1,10 @@
 // The candidate rule of one pattern and one parity of the sum of k, and the bases of both parities: `solve` and `base_pair` of the Rust's
 // encoder.rs, over the flat rows of a section. Record i of a section is at shrink i / 16, coordinate i / 2 % 8, pattern bit i % 2; slot f of
 // record i stands at 5 * i + f in `dist`, `weight` and `rank`; `up` says whether its target lies above its rounding.
+// The idea: the base is the nearest vector of its pattern and class. Where it is outside the bound, vectors
+// beside it are tried, then the same about targets drawn toward zero. A step changes two terms of a distance
+// that is known, so a try is a few additions and one comparison; only one that is nearer is held against the
+// bound.
 ghost use mathlib.Core.Path.{_≡_};
 ghost use mathlib.Core.Bool.{cond};
 ghost use Prim.Native.Nat.{ℕ, _<_, _≤_, _+_, _*_, _-_, _%_, _^_, min};
