@@ -153,7 +153,7 @@ pub fn encode_at_scale(samples: [f64; 24], scale: f64, setting: u32) -> Code
     ensures { λ r. ⌜ r ≡ encodeAtScale samples scale setting ⌝ }
 {
     if setting == 0 {
-        return zero_code(7, 0.0);
+        return zero_code(refusal::OUT_OF_RANGE, 0.0);
     }
     let n = score::scale_number(samples, scale);
     if n != 0 {
@@ -210,7 +210,7 @@ pub fn encode_with(samples: [f64; 24], setting: u32) -> Code
     ensures { λ r. ⌜ r ≡ encodeWith samples setting ⌝ }
 {
     if setting == 0 {
-        return zero_code(7, 0.0);
+        return zero_code(refusal::OUT_OF_RANGE, 0.0);
     }
     let n = score::sample_number(samples);
     if n != 0 {

@@ -142,7 +142,7 @@ pub fn root(x: f64) -> Rooted
         }
     }
     Rooted {
-        number: 7,
+        number: refusal::OUT_OF_RANGE,
         root: 0.0,
     }
 }

@@ -61,10 +61,10 @@ pub fn sample_number(samples: [f64; 24]) -> u32
     ensures { λ r. ⌜ r ≡ sampleNumber samples ⌝ }
 {
     if some_unbounded(samples) {
-        return 1;
+        return refusal::NOT_FINITE;
     }
     if some_exceeds(samples, 1e290) {
-        return 2;
+        return refusal::TOO_LARGE;
     }
     0
 }
@@ -80,14 +80,14 @@ pub fn scale_number(samples: [f64; 24], scale: f64) -> u32
     ensures { λ r. ⌜ r ≡ scaleNumber samples scale ⌝ }
 {
     if !is_scale(scale) {
-        return 3;
+        return refusal::NO_SCALE;
     }
     let n = sample_number(samples);
     if n != 0 {
         return n;
     }
     if some_exceeds(float::quotients(samples, scale), 1000000.0) {
-        return 4;
+        return refusal::TOO_FAR;
     }
     0
 }
@@ -107,7 +107,7 @@ fn dot(a: [f64; 24], b: [f64; 24]) -> f64
     acc
 }
 
-fn doubles(y: [i32; 24]) -> [f64; 24]
+pub fn doubles(y: [i32; 24]) -> [f64; 24]
     ensures { λ r. ⌜ r ≡ doublesOf y ⌝ }
 {
     let mut t = [0.0; 24];

@@ -169,14 +169,11 @@ pub fn patterns(word: u64) -> Bytes
 }
 
 // ---- from a point to its word
-// No word decodes to the point.
-const NO_WORD: u32 = 5;
-
 fn refused() -> Encoded
     ensures { λ r. ⌜ r ≡ refused ⌝ }
 {
     Encoded {
-        number: NO_WORD,
+        number: refusal::NO_WORD,
         word: 0,
     }
 }
