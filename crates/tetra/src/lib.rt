@@ -1,7 +1,7 @@
 // The tetra code: 48-bit words to points of the Leech lattice, and back.
 ghost use mathlib.Core.Path.{_≡_};
 ghost use mathlib.Core.List.{_++_};
-ghost use Prim.Native.Nat.{_*_, _<_};
+ghost use Prim.Native.Nat.{_+_, _*_, _<_};
 ghost use lib.Dec.{T};
 ghost use lib.IntN.{pos};
 ghost use lib.ListN.{getD, take, drop};
@@ -14,6 +14,7 @@ ghost use Rattle.rows.specs.Table.{rowRanks, middleRow};
 ghost use Rattle.tetra.specs.Lattice.{trio};
 ghost use Rattle.tetra.specs.Tetra.{trioPoint, trioPointOf, natural, pointOf, patternsOf};
 ghost use Rattle.tetra.specs.Encode.{refused, fieldsBy, encodeOf};
+ghost use Rattle.tetra.specs.Block.{blockAt};
 
 // The tables, read by a place, and the lookups of rank vectors: the accessors of the Rust's `Tetra`.
 pub use rows::class_index;
@@ -294,4 +295,28 @@ pub fn encode(point: [i32; 24]) -> Encoded
     }
     let word = word_by(p, x, r, i1, i2, i3);
     Encoded { number: 0, word }
+}
+
+// ---- a block of a longer list
+// The number at `from + j`, or 0 where the list ends before it.
+fn number_at(s: &[i32], from: usize, j: usize) -> i32
+    ensures { λ r. ⌜ r ≡ getD (now (s .entry)) (from + j) (pos 0) ⌝ }
+{
+    if from < s.len() {
+        if j < s.len() - from {
+            return s[from + j];
+        }
+    }
+    0
+}
+
+// The 24 numbers from place `from` on, as a point or the counts of a block stand in a longer list; 0 for those past its end.
+pub fn block(s: &[i32], from: usize) -> [i32; 24]
+    ensures { λ r. ⌜ r ≡ blockAt (now (s .entry)) from ⌝ }
+{
+    let mut out = [0i32; 24];
+    for j in 0..24usize {
+        out[j] = number_at(s, from, j);
+    }
+    out
 }
