@@ -54,10 +54,8 @@ fn section_of(p: u32, c: u32, rho: [u32; 8]) -> [i32; 8]
     ensures { λ r. ⌜ r ≡ pointAt p c rho ⌝ }
 {
     let mut out = [0i32; 8];
-    let mut j: u32 = 0;
-    while j < 8 {
+    for j in 0..8u32 {
         out[j as usize] = value(p + 2 * ((c >> j) & 1), rho[j as usize]);
-        j += 1;
     }
     out
 }
@@ -89,10 +87,8 @@ fn three(a: [i32; 8], b: [i32; 8], c: [i32; 8]) -> [i32; 24]
     ensures { λ r. ⌜ r ≡ a ++ (b ++ c) ⌝ }
 {
     let mut out = [0i32; 24];
-    let mut j: usize = 0;
-    while j < 24 {
+    for j in 0..24usize {
         out[j] = in_three(a, b, c, j);
-        j += 1;
     }
     out
 }
@@ -132,11 +128,9 @@ fn to_natural(t: [i32; 24]) -> [i32; 24]
     ensures { λ r. ⌜ r ≡ natural t ⌝ }
 {
     let mut out = [0i32; 24];
-    let mut i: usize = 0;
-    while i < 24 {
+    for i in 0..24usize {
         let j = trellis::place(i);
         out[i] = t[j];
-        i += 1;
     }
     out
 }
@@ -183,12 +177,10 @@ fn refused() -> Encoded
 fn one_parity(y: [i32; 24], p: u32) -> bool
     ensures { λ r. ⌜ r ≡ uniform p y ⌝ }
 {
-    let mut j: usize = 0;
-    while j < 24 {
+    for j in 0..24usize {
         if rank::parity(y[j]) != p {
             return false;
         }
-        j += 1;
     }
     true
 }
@@ -198,11 +190,9 @@ fn to_trio(y: [i32; 24]) -> [i32; 24]
     ensures { λ r. ⌜ r ≡ trio y ⌝ }
 {
     let mut out = [0i32; 24];
-    let mut j: usize = 0;
-    while j < 24 {
+    for j in 0..24usize {
         let i = trellis::order(j);
         out[j] = y[i];
-        j += 1;
     }
     out
 }
@@ -226,10 +216,8 @@ fn marks(t: [i32; 24], s: usize) -> [u32; 8]
     ensures { λ r. ⌜ r ≡ marksOf (take 8 (drop (8 * s) t)) ⌝ }
 {
     let mut rho = [0u32; 8];
-    let mut j: usize = 0;
-    while j < 8 {
+    for j in 0..8usize {
         rho[j] = rank::mark(t[8 * s + j]);
-        j += 1;
     }
     rho
 }
