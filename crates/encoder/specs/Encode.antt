@@ -7,6 +7,7 @@ use lib.Dec.{eqb}
 use lib.IntN.{pos}
 use lib.Ieee.{Float, inf, binary64, mul, lt}
 use Rattle.laws.specs.Lists.{tab}
+use Rattle.refusal.specs.Refusal.{outOfRange}
 use Rattle.tetra.specs.Encode.{encodeOf}
 use Rattle.float.specs.Value.{zero64}
 use Rattle.float.specs.Calls.{quotientsOf}
@@ -31,7 +32,7 @@ emptyCode n = zeroCode n zero64
 
 -- the number of a call is 7 at the setting 0, before everything else
 abbrev pub settingFirst : ℕ → ℕ → ℕ
-settingFirst n k = cond (eqb n 0) 7 k
+settingFirst n k = cond (eqb n 0) outOfRange k
 
 -- an answer by its number: the code where that is 0
 abbrev pub answered : ℕ → Code → Code

@@ -54,7 +54,8 @@ fn section(t: [f64; 24], from: usize) -> [f64; 8]
 }
 
 // ---- out: the point of a winner
-// The member of o + 4Z at the rank `rho`. No row holds a rank above 7: past them only -16 is within the reach of the definition.
+// The member of o + 4Z at the rank `rho`. No row holds a rank above 7, but the definition reads a value for each rank that a packed row could
+// hold: beyond the eight that `val` answers only -16, and 0 from there on.
 fn value(o: u32, rho: u32) -> i32
     ensures { λ r. ⌜ r ≡ valOf o rho ⌝ }
 {
@@ -68,7 +69,8 @@ fn value(o: u32, rho: u32) -> i32
     0
 }
 
-// Coordinate j of the section of parity p, byte c and packed row `key`.
+// Coordinate j of the section of parity p, byte c and packed row `key`. The definition has an answer for every p, and it is 0 from 4 on; a
+// winner's is 0 or 1.
 fn coordinate(p: u32, c: u8, key: u32, j: u32) -> i32
     requires { ⌜ j < 8 ⌝ }
     ensures { λ r. ⌜ r ≡ sectionAt p c key j ⌝ }
@@ -156,7 +158,7 @@ pub fn encode_at_scale(samples: [f64; 24], scale: f64, setting: u32) -> Code
     ensures { λ r. ⌜ r ≡ encodeAtScale samples scale setting ⌝ }
 {
     if setting == 0 {
-        return zero_code(7, 0.0);
+        return zero_code(refusal::OUT_OF_RANGE, 0.0);
     }
     let n = score::scale_number(samples, scale);
     if n != 0 {
@@ -213,7 +215,7 @@ pub fn encode_with(samples: [f64; 24], setting: u32) -> Code
     ensures { λ r. ⌜ r ≡ encodeWith samples setting ⌝ }
 {
     if setting == 0 {
-        return zero_code(7, 0.0);
+        return zero_code(refusal::OUT_OF_RANGE, 0.0);
     }
     let n = score::sample_number(samples);
     if n != 0 {

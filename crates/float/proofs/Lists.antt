@@ -1,22 +1,12 @@
--- The lists that the loops of `sum8` and `quotients` go through. Assumes nothing.
-use mathlib.Core.Path.{_≡_, sym, ap, _∙_}
+-- The lists that the loop of `quotients` goes through. Assumes nothing.
+use mathlib.Core.Path.{_≡_, sym, _∙_}
 use mathlib.Core.List.{List}
-use Prim.Native.Nat.{ℕ, _+_, _≤_, _<_}
-use lib.ListN.{length, drop, getD, drop-of-length-le}
-use lib.Ieee.{Float, nan, binary64, add, div}
-use Rattle.laws.specs.Lists.{filled, drop-next}
-use Rattle.float.specs.Calls.{sumFrom, quotientsOf}
+use Prim.Native.Nat.{ℕ, _<_}
+use lib.ListN.{length, getD}
+use lib.Ieee.{Float, nan, binary64, div}
+use Rattle.laws.specs.Lists.{filled}
+use Rattle.float.specs.Calls.{quotientsOf}
 use Rattle.float.specs.Laws.Arrays.{quotients-length, quotients-at}
-
--- one turn of the sum, and its end
-pub sum-next : (acc : Float) (a : List Float) (i : ℕ) → i < length a
-    → sumFrom acc (drop i a) ≡ sumFrom (add binary64 acc (getD a i nan)) (drop (i + 1) a)
-unfolding sumFrom
-sum-next acc a i h = ap (sumFrom acc) (drop-next Float nan a i h)
-
-pub sum-done : (acc : Float) (a : List Float) (i : ℕ) → length a ≤ i → acc ≡ sumFrom acc (drop i a)
-unfolding sumFrom
-sum-done acc a i h = ap (sumFrom acc) (sym (drop-of-length-le a h))
 
 -- a list that has every quotient in its place
 pub quotients-filled : (xs : List Float) (s : Float) (t : List Float) → length t ≡ length xs

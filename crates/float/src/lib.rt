@@ -2,7 +2,7 @@
 ghost use mathlib.Core.Path.{_≡_};
 ghost use Prim.Native.Nat.{_≤_};
 ghost use lib.Ieee.Scale.{finite};
-ghost use Rattle.float.specs.Calls.{absOf, clamped, halfUp, rounded, sumOf, quotientsOf};
+ghost use Rattle.float.specs.Calls.{absOf, clamped, halfUp, rounded, quotientsOf};
 ghost use Rattle.float.specs.Laws.Rounding.{Small};
 
 // The Rust's f64::abs: -0.0 gives +0.0, and a NaN a NaN.
@@ -60,28 +60,13 @@ pub fn round(z: f64) -> i32
     0
 }
 
-// The sum from left to right, from +0.0.
-pub fn sum8(a: [f64; 8]) -> f64
-    ensures { λ r. ⌜ r ≡ sumOf a ⌝ }
-{
-    let mut acc = 0.0;
-    let mut i = 0usize;
-    while i < 8usize {
-        acc = acc + a[i];
-        i += 1usize;
-    }
-    acc
-}
-
 // Each of the 24 numbers divided by s.
 pub fn quotients(x: [f64; 24], s: f64) -> [f64; 24]
     ensures { λ r. ⌜ r ≡ quotientsOf x s ⌝ }
 {
     let mut t = [0.0; 24];
-    let mut i = 0usize;
-    while i < 24usize {
+    for i in 0..24usize {
         t[i] = x[i] / s;
-        i += 1usize;
     }
     t
 }

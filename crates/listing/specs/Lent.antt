@@ -4,6 +4,7 @@ use mathlib.Core.List.{List, _++_}
 use Prim.Native.Nat.{ℕ}
 use lib.Dec.{ltb}
 use lib.ListN.{length, drop}
+use Rattle.refusal.specs.Refusal.{noRoom}
 use Rattle.listing.specs.Listing.{listing}
 use Rattle.listing.specs.declared.Listed.{Listed}
 
@@ -13,7 +14,7 @@ cells = 14674
 
 -- of a buffer of n cells: number 8 and count 0 where it is too short, else number 0 and the count
 abbrev pub answered : ℕ → Listed
-answered n = cond (ltb n cells) (record { number = 8; count = 0 }) (record { number = 0; count = cells })
+answered n = cond (ltb n cells) (record { number = noRoom; count = 0 }) (record { number = 0; count = cells })
 
 -- the buffer afterwards: as it was where it is too short, else the listing and, past it, the cells as they were
 abbrev pub written : List ℕ → List ℕ

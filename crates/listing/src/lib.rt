@@ -68,7 +68,7 @@ pub fn list(out: &mut [u32]) -> Listed
 {
     if out.len() < CELLS {
         return Listed {
-            number: 8,
+            number: refusal::NO_ROOM,
             count: 0,
         };
     }

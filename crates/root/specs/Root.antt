@@ -5,6 +5,7 @@ use Prim.Native.Nat.{ℕ, zero, suc, _+_, _-_, _*_, _/_, _^_, _<_}
 use lib.Dec.{T, leb, ltb}
 use lib.Ieee.{Float, nan, inf, fin, binary64, fits, size, round}
 use lib.Ieee.Scale.{finite}
+use Rattle.refusal.specs.Refusal.{outOfRange}
 use Rattle.float.specs.Value.{U, magUnits, isMinus, zero64}
 use Rattle.root.specs.declared.Rooted.{Rooted}
 
@@ -47,7 +48,7 @@ rootOf x = round binary64 false (rootUnits x) U
 
 -- ---- the answer for every double: a NaN, an infinity and a negative have no root; either zero is its own
 abbrev pub noRoot : Rooted
-noRoot = record { number = 7; root = zero64 }
+noRoot = record { number = outOfRange; root = zero64 }
 
 unfoldable pub rooted : Float → Rooted
 rooted nan = noRoot

@@ -97,12 +97,10 @@ fn root_digits(m: u64) -> Digits
 {
     let mut s = Digits { root: 0, rem: 0 };
     let mut left = m;
-    let mut i = 0u64;
-    while i < 53 {
+    for i in 0..53u64 {
         let d = left / LEAD;
         left = left % LEAD * 4;
         s = next_digit(s, d);
-        i += 1;
     }
     s
 }
@@ -142,7 +140,7 @@ pub fn root(x: f64) -> Rooted
         }
     }
     Rooted {
-        number: 7,
+        number: refusal::OUT_OF_RANGE,
         root: 0.0,
     }
 }

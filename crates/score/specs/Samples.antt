@@ -7,6 +7,7 @@ use lib.ListN.{getD}
 use lib.IntN.{pos}
 use lib.Ieee.{Float, fin, nan, binary64, fits, lt}
 use lib.Ieee.Scale.{finite}
+use Rattle.refusal.specs.Refusal.{notFinite, tooLarge, noScale, tooFar}
 use Rattle.float.specs.Value.{zero64}
 use Rattle.float.specs.Calls.{absOf, million64, quotientsOf}
 
@@ -34,7 +35,7 @@ some f (x ∷ xs) = f x || some f xs
 
 -- ---- of the samples: 1 over all of them, then 2 over all
 unfoldable pub sampleNumber : List Float → ℕ
-sampleNumber xs = cond (some unbounded xs) 1 (cond (some (exceeds limit64) xs) 2 0)
+sampleNumber xs = cond (some unbounded xs) notFinite (cond (some (exceeds limit64) xs) tooLarge 0)
 
 -- ---- of the samples at a scale: 3, then 1 and 2, then 4 over all quotients
 -- a finite number above 0
@@ -46,7 +47,7 @@ abbrev pub orElse : ℕ → ℕ → ℕ
 orElse a b = cond (eqb a 0) b a
 
 abbrev pub quotientNumber : List Float → ℕ
-quotientNumber qs = cond (some (exceeds million64) qs) 4 0
+quotientNumber qs = cond (some (exceeds million64) qs) tooFar 0
 
 unfoldable pub scaleNumber : List Float → Float → ℕ
-scaleNumber xs s = cond (isScale s) (orElse (sampleNumber xs) (quotientNumber (quotientsOf xs s))) 3
+scaleNumber xs s = cond (isScale s) (orElse (sampleNumber xs) (quotientNumber (quotientsOf xs s))) noScale

@@ -32,12 +32,10 @@ pub enum Choice {
 fn some_unbounded(x: [f64; 24]) -> bool
     ensures { λ r. ⌜ r ≡ some unbounded x ⌝ }
 {
-    let mut i = 0usize;
-    while i < 24usize {
+    for i in 0..24usize {
         if !float::is_finite(x[i]) {
             return true;
         }
-        i += 1usize;
     }
     false
 }
@@ -46,12 +44,10 @@ fn some_unbounded(x: [f64; 24]) -> bool
 fn some_exceeds(x: [f64; 24], limit: f64) -> bool
     ensures { λ r. ⌜ r ≡ some (exceeds limit) x ⌝ }
 {
-    let mut i = 0usize;
-    while i < 24usize {
+    for i in 0..24usize {
         if limit < float::abs(x[i]) {
             return true;
         }
-        i += 1usize;
     }
     false
 }
@@ -61,10 +57,10 @@ pub fn sample_number(samples: [f64; 24]) -> u32
     ensures { λ r. ⌜ r ≡ sampleNumber samples ⌝ }
 {
     if some_unbounded(samples) {
-        return 1;
+        return refusal::NOT_FINITE;
     }
     if some_exceeds(samples, 1e290) {
-        return 2;
+        return refusal::TOO_LARGE;
     }
     0
 }
@@ -80,14 +76,14 @@ pub fn scale_number(samples: [f64; 24], scale: f64) -> u32
     ensures { λ r. ⌜ r ≡ scaleNumber samples scale ⌝ }
 {
     if !is_scale(scale) {
-        return 3;
+        return refusal::NO_SCALE;
     }
     let n = sample_number(samples);
     if n != 0 {
         return n;
     }
     if some_exceeds(float::quotients(samples, scale), 1000000.0) {
-        return 4;
+        return refusal::TOO_FAR;
     }
     0
 }
@@ -99,22 +95,18 @@ fn dot(a: [f64; 24], b: [f64; 24]) -> f64
     ensures { λ r. ⌜ r ≡ dotOf a b ⌝ }
 {
     let mut acc = 0.0;
-    let mut i = 0usize;
-    while i < 24usize {
+    for i in 0..24usize {
         acc = acc + a[i] * b[i];
-        i += 1usize;
     }
     acc
 }
 
-fn doubles(y: [i32; 24]) -> [f64; 24]
+pub fn doubles(y: [i32; 24]) -> [f64; 24]
     ensures { λ r. ⌜ r ≡ doublesOf y ⌝ }
 {
     let mut t = [0.0; 24];
-    let mut i = 0usize;
-    while i < 24usize {
+    for i in 0..24usize {
         t[i] = y[i] as f64;
-        i += 1usize;
     }
     t
 }
@@ -164,10 +156,8 @@ fn largest(x: [f64; 24]) -> f64
     ensures { λ r. ⌜ r ≡ largestOf x ⌝ }
 {
     let mut m = 0.0;
-    let mut i = 0usize;
-    while i < 24usize {
+    for i in 0..24usize {
         m = grown(m, x[i]);
-        i += 1usize;
     }
     m
 }
@@ -188,7 +178,7 @@ fn scale_with(m: f64, n: f64) -> f64
 }
 
 // The Rust's lower_scale of any samples, with no refusal.
-pub fn scales_of(samples: [f64; 24]) -> Scales
+fn scales_of(samples: [f64; 24]) -> Scales
     ensures { λ r. ⌜ r ≡ lowerScale samples ⌝ }
 {
     let m = largest(samples);

@@ -12,6 +12,7 @@ use lib.Dec.{T}
 use lib.IntN.{ℤ, pos, natAbs}
 use lib.ListN.{length, getD}
 use Rattle.laws.specs.Tests.{is-true, is-false}
+use Rattle.refusal.specs.Refusal.{noWord}
 use Rattle.word.specs.Word.{fieldsOf, wordOf}
 use Rattle.word.specs.Laws.{split-narrow, split-join, no-gain-split, no-gain-lt}
 use Rattle.word.specs.declared.Fields.{Fields}
@@ -20,7 +21,7 @@ use Rattle.trellis.specs.Trio.{places}
 use Rattle.trellis.specs.Laws.Trio.{trio-fits}
 use Rattle.tetra.specs.Lattice.{trio, HasWord}
 use Rattle.tetra.specs.Tetra.{codewordAt, trioPoint, natural, trioPointOf, pointOf, patternsOf}
-use Rattle.tetra.specs.Encode.{noWord, refused, encodable, fieldsFor, encodeOf}
+use Rattle.tetra.specs.Encode.{refused, encodable, fieldsFor, encodeOf}
 use Rattle.tetra.specs.Laws.Orders.{natural-length, natural-at, natural-trio}
 use Rattle.tetra.specs.Laws.Point.{bits-are, point-small}
 use Rattle.tetra.specs.Laws.Word.{trio-of, decoded, has-encodable, encodable-has, fields-narrow, fields-point, fields-back}

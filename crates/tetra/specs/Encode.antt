@@ -6,6 +6,7 @@ use lib.Dec.{ltb, eqb}
 use lib.IntN.{ℤ, pos}
 use lib.ListN.{getD}
 use Rattle.laws.specs.Whole.{modZ}
+use Rattle.refusal.specs.Refusal.{noWord}
 use Rattle.word.specs.Word.{wordOf}
 use Rattle.word.specs.declared.Fields.{Fields}
 use Rattle.rank.specs.Coord.{parityOf}
@@ -19,9 +20,6 @@ use Rattle.tetra.specs.Lattice.{trio, sectionRanks, inOwnClass}
 use Rattle.tetra.specs.declared.Encoded.{Encoded}
 
 -- ---- the refusal: no word decodes to the point
-abbrev pub noWord : ℕ
-noWord = 5
-
 abbrev pub refusedWith : ℕ → Encoded
 refusedWith n = record { number = n; word = 0 }
 

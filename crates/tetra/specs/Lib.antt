@@ -2,6 +2,8 @@
 pub mod Lattice
 pub mod Tetra
 pub mod Encode
+-- a block of a longer list
+pub mod Block
 -- demand 2; the points to hit exactly
 pub mod Demand2
 pub mod Points

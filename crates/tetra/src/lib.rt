@@ -1,7 +1,7 @@
 // The tetra code: 48-bit words to points of the Leech lattice, and back.
 ghost use mathlib.Core.Path.{_≡_};
 ghost use mathlib.Core.List.{_++_};
-ghost use Prim.Native.Nat.{_*_, _<_};
+ghost use Prim.Native.Nat.{_+_, _*_, _<_};
 ghost use lib.Dec.{T};
 ghost use lib.IntN.{pos};
 ghost use lib.ListN.{getD, take, drop};
@@ -14,6 +14,7 @@ ghost use Rattle.rows.specs.Table.{rowRanks, middleRow};
 ghost use Rattle.tetra.specs.Lattice.{trio};
 ghost use Rattle.tetra.specs.Tetra.{trioPoint, trioPointOf, natural, pointOf, patternsOf};
 ghost use Rattle.tetra.specs.Encode.{refused, fieldsBy, encodeOf};
+ghost use Rattle.tetra.specs.Block.{blockAt};
 
 // The tables, read by a place, and the lookups of rank vectors: the accessors of the Rust's `Tetra`.
 pub use rows::class_index;
@@ -53,10 +54,8 @@ fn section_of(p: u32, c: u32, rho: [u32; 8]) -> [i32; 8]
     ensures { λ r. ⌜ r ≡ pointAt p c rho ⌝ }
 {
     let mut out = [0i32; 8];
-    let mut j: u32 = 0;
-    while j < 8 {
+    for j in 0..8u32 {
         out[j as usize] = value(p + 2 * ((c >> j) & 1), rho[j as usize]);
-        j += 1;
     }
     out
 }
@@ -88,10 +87,8 @@ fn three(a: [i32; 8], b: [i32; 8], c: [i32; 8]) -> [i32; 24]
     ensures { λ r. ⌜ r ≡ a ++ (b ++ c) ⌝ }
 {
     let mut out = [0i32; 24];
-    let mut j: usize = 0;
-    while j < 24 {
+    for j in 0..24usize {
         out[j] = in_three(a, b, c, j);
-        j += 1;
     }
     out
 }
@@ -131,11 +128,9 @@ fn to_natural(t: [i32; 24]) -> [i32; 24]
     ensures { λ r. ⌜ r ≡ natural t ⌝ }
 {
     let mut out = [0i32; 24];
-    let mut i: usize = 0;
-    while i < 24 {
+    for i in 0..24usize {
         let j = trellis::place(i);
         out[i] = t[j];
-        i += 1;
     }
     out
 }
@@ -169,14 +164,11 @@ pub fn patterns(word: u64) -> Bytes
 }
 
 // ---- from a point to its word
-// No word decodes to the point.
-const NO_WORD: u32 = 5;
-
 fn refused() -> Encoded
     ensures { λ r. ⌜ r ≡ refused ⌝ }
 {
     Encoded {
-        number: NO_WORD,
+        number: refusal::NO_WORD,
         word: 0,
     }
 }
@@ -185,12 +177,10 @@ fn refused() -> Encoded
 fn one_parity(y: [i32; 24], p: u32) -> bool
     ensures { λ r. ⌜ r ≡ uniform p y ⌝ }
 {
-    let mut j: usize = 0;
-    while j < 24 {
+    for j in 0..24usize {
         if rank::parity(y[j]) != p {
             return false;
         }
-        j += 1;
     }
     true
 }
@@ -200,11 +190,9 @@ fn to_trio(y: [i32; 24]) -> [i32; 24]
     ensures { λ r. ⌜ r ≡ trio y ⌝ }
 {
     let mut out = [0i32; 24];
-    let mut j: usize = 0;
-    while j < 24 {
+    for j in 0..24usize {
         let i = trellis::order(j);
         out[j] = y[i];
-        j += 1;
     }
     out
 }
@@ -228,10 +216,8 @@ fn marks(t: [i32; 24], s: usize) -> [u32; 8]
     ensures { λ r. ⌜ r ≡ marksOf (take 8 (drop (8 * s) t)) ⌝ }
 {
     let mut rho = [0u32; 8];
-    let mut j: usize = 0;
-    while j < 8 {
+    for j in 0..8usize {
         rho[j] = rank::mark(t[8 * s + j]);
-        j += 1;
     }
     rho
 }
@@ -297,4 +283,28 @@ pub fn encode(point: [i32; 24]) -> Encoded
     }
     let word = word_by(p, x, r, i1, i2, i3);
     Encoded { number: 0, word }
+}
+
+// ---- a block of a longer list
+// The number at `from + j`, or 0 where the list ends before it.
+fn number_at(s: &[i32], from: usize, j: usize) -> i32
+    ensures { λ r. ⌜ r ≡ getD (now (s .entry)) (from + j) (pos 0) ⌝ }
+{
+    if from < s.len() {
+        if j < s.len() - from {
+            return s[from + j];
+        }
+    }
+    0
+}
+
+// The 24 numbers from place `from` on, as a point or the counts of a block stand in a longer list; 0 for those past its end.
+pub fn block(s: &[i32], from: usize) -> [i32; 24]
+    ensures { λ r. ⌜ r ≡ blockAt (now (s .entry)) from ⌝ }
+{
+    let mut out = [0i32; 24];
+    for j in 0..24usize {
+        out[j] = number_at(s, from, j);
+    }
+    out
 }

@@ -2,6 +2,7 @@
 use mathlib.Core.Bool.{Bool, cond, _&&_}
 use Prim.Native.Nat.{ℕ, _+_, _*_, _/_, _%_, _^_, _<_}
 use lib.Dec.{ltb}
+use Rattle.refusal.specs.Refusal.{tooWide}
 use Rattle.word.specs.declared.Fields.{Fields}
 use Rattle.word.specs.declared.Joined.{Joined}
 
@@ -50,6 +51,6 @@ wordOf f =
     f .p * 2 ^ 0 + f .r * 2 ^ 1 + f .s8 * 2 ^ 2 + f .b1 * 2 ^ 8 + f .i1 * 2 ^ 9 + f .b2 * 2 ^ 20 + f .i2 * 2 ^ 24 + f .b3 * 2 ^ 35
     + f .i3 * 2 ^ 36 + f .gain * 2 ^ 47
 
--- what `join` answers: the word, or number 6 and word 0 where a field does not fit
+-- what `join` answers: the word, or the refusal and word 0 where a field does not fit
 unfoldable pub joinOf : Fields → Joined
-joinOf f = cond (fits f) (record { number = 0; word = wordOf f }) (record { number = 6; word = 0 })
+joinOf f = cond (fits f) (record { number = 0; word = wordOf f }) (record { number = tooWide; word = 0 })

@@ -78,7 +78,10 @@ impl Fields {
                 word: put_all(self),
             }
         } else {
-            Joined { number: 6, word: 0 }
+            Joined {
+                number: refusal::TOO_WIDE,
+                word: 0,
+            }
         }
     }
 }

@@ -1,0 +1,2 @@
+-- the numbers that answer a bad call
+pub mod Refusal

@@ -1,0 +1,50 @@
+-- The numbers by which a call refuses bad input: document 01, "Numbers that answer a bad call". A call that is accepted carries 0.
+-- Assumes nothing.
+use mathlib.Core.Path.{_≡_, refl}
+use mathlib.Core.List.{List, [], _∷_}
+use Prim.Native.Nat.{ℕ}
+
+-- a sample is a NaN or infinite
+abbrev pub notFinite : ℕ
+notFinite = 1
+
+-- a sample's magnitude exceeds 1e290
+abbrev pub tooLarge : ℕ
+tooLarge = 2
+
+-- the scale is not a finite number above 0
+abbrev pub noScale : ℕ
+noScale = 3
+
+-- a quotient of a sample by the scale exceeds 1e6 in magnitude
+abbrev pub tooFar : ℕ
+tooFar = 4
+
+-- no word decodes to the point
+abbrev pub noWord : ℕ
+noWord = 5
+
+-- a field does not fit its width
+abbrev pub tooWide : ℕ
+tooWide = 6
+
+-- a residue, a rank or a setting of the shrinks is out of its range, or a number has no root
+abbrev pub outOfRange : ℕ
+outOfRange = 7
+
+-- a lent buffer is too short
+abbrev pub noRoom : ℕ
+noRoom = 8
+
+-- a text is no page
+abbrev pub malformed : ℕ
+malformed = 9
+
+-- ---- all of them
+abbrev pub numbers : List ℕ
+numbers =
+    notFinite ∷ tooLarge ∷ noScale ∷ tooFar ∷ noWord ∷ tooWide ∷ outOfRange ∷ noRoom ∷ malformed ∷ []
+
+-- they are the numbers of document 01, from 1 on, so no two reasons share one
+pub from-one : numbers ≡ 1 ∷ 2 ∷ 3 ∷ 4 ∷ 5 ∷ 6 ∷ 7 ∷ 8 ∷ 9 ∷ []
+from-one = refl

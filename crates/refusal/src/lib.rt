@@ -1,0 +1,48 @@
+// The numbers by which a call refuses bad input, each with its name: the list of document 01. Every crate that refuses takes them from here, so
+// that a number stands in one place of the code and, in specs/Refusal, in one place of the definitions. A call that is accepted carries 0.
+ghost use mathlib.Core.Path.{_≡_};
+ghost use Rattle.refusal.specs.Refusal.{numbers};
+
+// A sample is a NaN or infinite.
+pub const NOT_FINITE: u32 = 1;
+
+// A sample's magnitude exceeds 1e290.
+pub const TOO_LARGE: u32 = 2;
+
+// The scale is not a finite number above 0.
+pub const NO_SCALE: u32 = 3;
+
+// A quotient of a sample by the scale exceeds 1e6 in magnitude.
+pub const TOO_FAR: u32 = 4;
+
+// No word decodes to the point.
+pub const NO_WORD: u32 = 5;
+
+// A field does not fit its width.
+pub const TOO_WIDE: u32 = 6;
+
+// A residue, a rank or a setting of the shrinks is out of its range, or a number has no root.
+pub const OUT_OF_RANGE: u32 = 7;
+
+// A lent buffer is too short.
+pub const NO_ROOM: u32 = 8;
+
+// A text is no page.
+pub const MALFORMED: u32 = 9;
+
+// All of them, from 1 on. The contract holds these constants to the definitions, so that neither can be changed alone.
+pub fn numbers() -> [u32; 9]
+    ensures { λ r. ⌜ r ≡ numbers ⌝ }
+{
+    [
+        NOT_FINITE,
+        TOO_LARGE,
+        NO_SCALE,
+        TOO_FAR,
+        NO_WORD,
+        TOO_WIDE,
+        OUT_OF_RANGE,
+        NO_ROOM,
+        MALFORMED,
+    ]
+}
