@@ -1,0 +1,21 @@
+#!/usr/bin/env bash
+# Prints a page's counts as a table with one sample on each line, to plot or to load into another program.
+#   bash tools/csv.sh [PAGE]
+# The page is read from standard input where none is named. The columns are block, sample and count, as the first line
+# says: the block's index; the sample's index in the page, from 0, which is 24 times the block's and its place in it;
+# and its count.
+# Exit status: as of tools/unpage.sh, which reads the page. For a page that is refused no table is printed.
+set -euo pipefail
+. "$(dirname "$0")/common.sh"
+help_if_asked "$@"
+if [ $# -gt 1 ]; then wrong "it wants one page"; fi
+case ${1:-} in -*) wrong "there is no option $1" ;; esac
+status=0
+shown=$(bash "$root/tools/unpage.sh" "$@") || status=$?
+if [ "$status" -ne 0 ]; then
+    if [ -n "$shown" ]; then echo "$shown" >&2; fi
+    exit "$status"
+fi
+awk -F '[=,]' 'BEGIN { print "block,sample,count" }
+    $1 == "block" { block = $2 }
+    $1 == "counts" { for (k = 2; k <= NF; k++) print block "," 24 * block + k - 2 "," $k }' <<<"$shown"
