@@ -106,15 +106,21 @@ def into_room(name, given, room):
     return drained(out)[PAGE - room:], said, 0
 
 
-def into_late(name, given):
-    """A pipe that does not block, and is read once it has been full for a while."""
+def into_slower(name, given):
+    """A pipe that does not block, and is read more slowly than it is filled."""
     out, into = os.pipe()
     fcntl.fcntl(into, fcntl.F_SETPIPE_SZ, 1 << 16)
     os.set_blocking(into, False)
     process = started(name, given, into)
     os.close(into)
-    time.sleep(0.5)
-    got = drained(out)
+    got = b""
+    while True:
+        time.sleep(0.001)
+        part = os.read(out, PAGE)
+        if not part:
+            break
+        got += part
+    os.close(out)
     return got, ended(process), 0
 
 
@@ -230,7 +236,7 @@ def write_case(tally, name, how, wanted, result, quiet=False):
 def writes(tally, name, given, wanted):
     for room in [0, 1, 7, 40, 300, 2000, PAGE]:
         write_case(tally, name, f"room for {room} bytes", wanted, into_room(name, given, room))
-    write_case(tally, name, "read late", wanted, into_late(name, given))
+    write_case(tally, name, "read more slowly than it is filled", wanted, into_slower(name, given))
     write_case(tally, name, "a full device", wanted, into_full(name, given))
     for limit in [0, 1, 100, 5000, 70000]:
         write_case(tally, name, f"a file of at most {limit} bytes", wanted, into_limited(name, given, limit))

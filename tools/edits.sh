@@ -6,11 +6,13 @@
 set -euo pipefail
 . "$(dirname "$0")/common.sh"
 help_if_asked "$@"
+all=("$root"/edits/*)
+all=("${all[@]##*/}")
 for name in "$@"; do
     case $name in -*) wrong "there is no option $name" ;; esac
-    if [ ! -d "$root/edits/$name" ]; then wrong "there is no edits/$name; there are: $(ls "$root/edits" | tr '\n' ' ')"; fi
+    if [ ! -d "$root/edits/$name" ]; then wrong "there is no edits/$name; there are: ${all[*]}"; fi
 done
-if [ $# -eq 0 ]; then set -- $(ls "$root/edits"); fi
+if [ $# -eq 0 ]; then set -- "${all[@]}"; fi
 work=$(mktemp -d)
 trap 'rm -rf "$work"' EXIT
 cp -r "$root/crates" "$root/crates.txt" "$work/"
