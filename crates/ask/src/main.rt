@@ -11,6 +11,10 @@
 //
 // The words of a line stand one space apart, and its end is an LF, which the last line may lack. A line that is no
 // request, and one of 1,024 bytes or more, is answered by refused=9.
+//
+// A program of this language has no exit status. So a read or a write that fails is said on standard error,
+// and from then on nothing is answered: what was written is a beginning of the right answers, whose last line
+// may be cut.
 mod parse;
 mod text;
 
@@ -191,7 +195,8 @@ fn answer(s: &[u8], out: &mut [u8], to: usize) -> usize {
 
 // ---- the stream
 
-// What is held from byte to byte: so many bytes of a line, and so many of answers; and whether each write went well.
+// What is held from byte to byte: so many bytes of a line, and so many of answers; and whether each write
+// went well.
 struct Held {
     line: usize,
     out: usize,
@@ -207,8 +212,8 @@ struct Turn {
 // Answers are written once so many bytes of them are held: no answer is longer than what is left of the buffer.
 const FULL: usize = 64512;
 
-// Says on standard error that a read or a write failed: a program of this language has no exit status to say it by.
-// No bytes of a line are held from then on, so nothing is answered any more.
+// Says on standard error that a read or a write failed. No bytes of a line are held from then on, so nothing
+// more is answered.
 fn failed(what: &[u8]) -> Turn {
     io::write_all(STDERR_FILENO, what);
     Turn {
@@ -236,8 +241,8 @@ fn make_room(out: &[u8], held: Held) -> Held {
     }
 }
 
-// Writes the rest of the answers. After a write that failed nothing more is written: what follows would stand in the
-// middle of a line.
+// Writes the rest of the answers. After a write that failed nothing more is written: what follows would stand
+// in the middle of a line.
 fn write_rest(out: &[u8], held: Held) -> Turn {
     if held.good {
         if write_out(out, held.out) {

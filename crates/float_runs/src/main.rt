@@ -53,7 +53,8 @@ fn double_of(b: u64) -> f64
     }
 }
 
-// After a write that fails nothing more is written: standard output is closed, and each later write fails too.
+// After a write that fails nothing more is written: standard output is closed, and each later write fails
+// too.
 fn or_close(written: bool) {
     if !written {
         libc::close(1);

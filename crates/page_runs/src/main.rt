@@ -20,7 +20,8 @@ fn end_of(texts: &[u8], at: usize) -> usize
     i
 }
 
-// After a write that fails nothing more is written: standard output is closed, and each later write fails too.
+// After a write that fails nothing more is written: standard output is closed, and each later write fails
+// too.
 fn or_close(written: bool) {
     if !written {
         libc::close(STDOUT_FILENO);

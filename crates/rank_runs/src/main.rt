@@ -2,7 +2,8 @@
 use rank::Bound;
 use rank::Ranked;
 
-// After a write that fails nothing more is written: standard output is closed, and each later write fails too.
+// After a write that fails nothing more is written: standard output is closed, and each later write fails
+// too.
 fn or_close(written: bool) {
     if !written {
         libc::close(1);

@@ -1,7 +1,7 @@
 // unpage: prints the blocks of the page on standard input, or that it is no page.
 //
-// A program of this language has no exit status. So a read or a write that fails is said on standard error: after a
-// read nothing is printed, after a write nothing more is.
+// A program of this language has no exit status. So a read or a write that fails is said on standard error:
+// after a read nothing is printed, after a write nothing more is.
 use libc::STDERR_FILENO;
 use libc::STDIN_FILENO;
 use libc::STDOUT_FILENO;
@@ -14,7 +14,8 @@ struct Input {
     length: usize,
 }
 
-// Reads until text is full or the input ends. `io::read_full` would do so too, and take a read that fails for the end.
+// Reads until text is full or the input ends. `io::read_full` would do so too, and take a read that fails for
+// the end.
 fn read_all(text: &mut [u8]) -> Input
     ensures { λ r. ⌜ Counts (r .length) (now (text .exit)) ⌝ }
 {
@@ -49,8 +50,8 @@ fn complain(what: &[u8]) {
     io::write_all(STDERR_FILENO, what);
 }
 
-// No page has more than 1,189 bytes, so an input that fills the buffer is none, whatever follows (start-tells of crate
-// page). Nothing is printed before the whole page is read.
+// No page has more than 1,189 bytes, so an input that fills the buffer is none, whatever follows (start-tells
+// of crate page). Nothing is printed before the whole page is read.
 fn main() {
     let mut text = [0u8; 1190];
     let input = read_all(&mut text);
