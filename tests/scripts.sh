@@ -17,7 +17,10 @@ cat >"$work/bin/rt" <<'STAND_IN'
 #!/usr/bin/env bash
 echo "rt $*" >>"$CALLED"
 case ${RT_SAYS:-ok} in
-ok) printf 'fn laws::one: proved\nrt: laws proved (unchanged since it was last proved)\nfn word::get: proved\nrt: word proved (13 s)\nrt: ok, 2 crates proved\n' ;;
+ok)
+    printf 'rt: laws proved (unchanged since it was last proved)\n'
+    printf 'fn word::get: proved\nrt: word proved (13 s)\nrt: ok, 2 crates proved\n'
+    ;;
 *) printf 'fn word::get: not proved\nrt: word NOT PROVED (exit 1, 3 s)\nrt: FAILED: word\n'; exit 1 ;;
 esac
 STAND_IN

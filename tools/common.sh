@@ -25,8 +25,8 @@ help_if_asked() {
 
 whole_number() { [[ $1 =~ ^(0|[1-9][0-9]{0,17})$ ]]; }
 
-# Proves and builds the program $1, with a line on standard error for each crate that had to be proved. All that the
-# toolchain says goes to a file.
+# Proves and builds the program $1, with a line on standard error for each crate that had to be proved. All
+# that the toolchain says goes to a file.
 prove() {
     local log=$root/target/$1.log status=0
     if ! command -v rt >/dev/null; then
@@ -46,8 +46,8 @@ prove() {
     fi
 }
 
-# Runs the program $1 that is built, and ends with status 1 where it says on standard error that a read or a write
-# failed: it cannot set its own.
+# Runs the program $1 that is built. The status is 1 where it says on standard error that a read or a write
+# failed: a program of Rattle cannot set its own.
 run() {
     local said status=0
     said=$(mktemp)

@@ -1,9 +1,8 @@
 #!/usr/bin/env bash
 # Prints a page's counts as a table with one sample on each line, to plot or to load into another program.
 #   bash tools/csv.sh [PAGE]
-# The page is read from standard input where none is named. The columns are block, sample and count, as the first line
-# says: the block's index; the sample's index in the page, from 0, which is 24 times the block's and its place in it;
-# and its count.
+# The page is read from standard input where none is named. The first line names the columns: block, the
+# block's index; sample, the sample's index in the page, from 0; count, its count. A block has 24 samples.
 # Exit status: as of tools/unpage.sh, which reads the page. For a page that is refused no table is printed.
 set -euo pipefail
 . "$(dirname "$0")/common.sh"

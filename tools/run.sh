@@ -1,8 +1,8 @@
 #!/usr/bin/env bash
 # Runs a program that is built, target/bin/NAME, with this script's standard input and output.
 #   bash tools/run.sh NAME
-# Programs are built for x86-64 Linux. On another machine the toolchain's own emulator runs them, or the command that
-# is in RUN.
+# Programs are built for x86-64 Linux. On another machine the toolchain's own emulator runs them, or the
+# command that is in RUN.
 set -euo pipefail
 . "$(dirname "$0")/common.sh"
 help_if_asked "$@"
