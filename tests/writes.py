@@ -115,7 +115,7 @@ def into_slower(name, given):
     os.close(into)
     got = b""
     while True:
-        time.sleep(0.001)
+        time.sleep(0.02)
         part = os.read(out, PAGE)
         if not part:
             break
