@@ -1,14 +1,17 @@
 #!/usr/bin/env python3
 """Runs the program unpage on pages, good and damaged, and holds it to answers that are worked out here from document 01.
 
-    tests/pages.py                  runs target/bin/unpage on every page
+    tests/pages.py                  runs the program on every page
     tests/pages.py --oracle ORACLE  also puts each word of the pages to a program over the Rust, which has to decode it as here
     tests/pages.py --write          writes what the gate runs page_runs on, and its answers: crates/page_runs/stdin and stdout
     tests/pages.py --check          says whether those two files are the ones that --write writes
+    tests/pages.py --help           prints this
 
 From the environment:
-    UNPAGE  the program; target/bin/unpage where it is not set
-    RUN     the words that run it, as an emulator and a loader with its options; none where it is not set
+    UNPAGE  the program; target/bin/unpage, run by tools/run.sh, where it is not set
+    RUN     the command that runs the program, as an emulator and a loader with its options, where it needs one
+
+Exit status: 0 all is as it should be; 1 something is not; 2 a wrong argument.
 
 Nothing here is taken from the crates: pages are read by a pattern, words are decoded by the rule of the rows and by the columns.
 """
@@ -241,12 +244,20 @@ def gate(write):
 
 # ---- the run
 
-def run(name, text, program):
+def wrong(what):
+    print(f"pages.py: {what}\n{__doc__}", file=sys.stderr)
+    sys.exit(2)
+
+
+def run(name, text, command):
     want = printed(text)
-    got = subprocess.run(program, input=text, stdout=subprocess.PIPE, check=True).stdout
-    if got != want:
-        print(f"DIFFERS: {name}\n  input  {text[:300]}\n  wanted {want[:300]}\n  got    {got[:300]}")
-    return got == want
+    try:
+        ran = subprocess.run(command, input=text, stdout=subprocess.PIPE)
+    except OSError as e:
+        wrong(f"{' '.join(command)} cannot be run: {e}")
+    if ran.returncode != 0 or ran.stdout != want:
+        print(f"DIFFERS: {name}\n  input  {text[:300]}\n  wanted {want[:300]}\n  got    {ran.stdout[:300]}, status {ran.returncode}")
+    return ran.returncode == 0 and ran.stdout == want
 
 
 def ask(oracle, texts):
@@ -259,18 +270,32 @@ def ask(oracle, texts):
     return same
 
 
+def program():
+    """The command that runs unpage."""
+    built = os.environ.get("UNPAGE", os.path.join(ROOT, "target", "bin", "unpage"))
+    if not os.access(built, os.X_OK):
+        wrong(f"there is no program {built}: rt check unpage builds target/bin/unpage, or UNPAGE names another")
+    if "UNPAGE" in os.environ:
+        return os.environ.get("RUN", "").split() + [built]
+    return ["bash", os.path.join(ROOT, "tools", "run.sh"), "unpage"]
+
+
 def main(arguments):
+    if arguments == ["--help"]:
+        print(__doc__)
+        return True
     if arguments in (["--write"], ["--check"]):
         return gate(arguments == ["--write"])
     if arguments and (arguments[0] != "--oracle" or len(arguments) != 2):
-        print(__doc__)
-        return False
-    program = os.environ.get("RUN", "").split() + [os.environ.get("UNPAGE", os.path.join(ROOT, "target", "bin", "unpage"))]
+        wrong(f"it does not know {' '.join(arguments)}")
+    if arguments and not os.access(arguments[1], os.X_OK):
+        wrong(f"there is no program {arguments[1]}")
+    command = program()
     fine, broken = list(good()), list(damaged())
     alike = ask(arguments[1], [text for _, text in fine + broken] + for_the_gate()) if arguments else True
     answers = {}
     for name, text in fine + broken:
-        alike = run(name, text, program) and alike
+        alike = run(name, text, command) and alike
         kind = "refused" if reading(text) is None else "accepted"
         answers[kind] = answers.get(kind, 0) + 1
     print(f"{len(fine)} good pages and {len(broken)} damaged ones: {answers['accepted']} accepted, {answers['refused']} refused, "

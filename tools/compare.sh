@@ -1,30 +1,45 @@
 #!/usr/bin/env bash
 # Puts the same requests to the Rust and to the program ask, and compares the answers byte for byte.
 #
-#   compare.sh SEED PARTS TURNS
+#   ORACLE=.. bash tools/compare.sh SEED PARTS TURNS
 #
 # Part k has the requests of `oracle gen SEED+k TURNS`: in each turn a word, a point that has a word, that point with one to three coordinates
 # damaged, and a block of samples at a scale, at its own scale, for its lower scale, and scored against a point. From the environment:
 #   ORACLE  the program over the Rust that answers request lines and generates them
-#   ASK     the program; target/bin/ask where it is not set
-#   RUN     the words that run it, as an emulator and a loader with its options; none where it is not set
-#   GEN     the words that print the requests of a seed and a number of turns; "ORACLE gen" where it is not set
+#   ASK     the program; target/bin/ask, run by tools/run.sh, where it is not set
+#   RUN     the command that runs the program, as an emulator and a loader with its options, where it needs one
+#   GEN     the command that prints the requests of a seed and a number of turns; "ORACLE gen" where it is not set
 #   KINDS   the requests that are kept; decode|point|scale|auto|lower|score where it is not set
 # It stops at the first part that is answered differently, and leaves the requests and both answers.
 set -euo pipefail
-if [ $# -ne 3 ] || [ -z "${ORACLE:-}" ]; then
-    sed -n '2,14s/^# \{0,1\}//p' "$0"
-    exit 2
-fi
-seed=$1 parts=$2 turns=$3 ask=${ASK:-target/bin/ask} kinds=${KINDS:-decode|point|scale|auto|lower|score}
-read -ra run <<<"${RUN:-}"
+. "$(dirname "$0")/common.sh"
+help_if_asked "$@"
+if [ $# -ne 3 ]; then wrong "it wants three numbers"; fi
+for number in "$@"; do
+    if ! whole_number "$number"; then wrong "$number is not a whole number"; fi
+done
+if ! command -v "${ORACLE:-}" >/dev/null; then wrong "ORACLE has to name a program"; fi
+seed=$1 parts=$2 turns=$3 kinds=${KINDS:-decode|point|scale|auto|lower|score}
 read -ra gen <<<"${GEN:-$ORACLE gen}"
+if ! command -v "${gen[0]}" >/dev/null; then wrong "GEN has to name a program"; fi
+if [ -n "${ASK:-}" ]; then
+    if [ ! -x "$ASK" ]; then wrong "ASK has to name a program"; fi
+    read -ra ask <<<"${RUN:-}"
+    ask+=("$ASK")
+else
+    if [ ! -x "$root/target/bin/ask" ]; then wrong "there is no target/bin/ask: rt check ask builds it, or ASK names another"; fi
+    ask=(bash "$root/tools/run.sh" ask)
+fi
 work=$(mktemp -d)
 echo "seeds $seed to $((seed + parts - 1)), $turns turns each, requests $kinds"
 for ((k = 0; k < parts; k++)); do
-    "${gen[@]}" $((seed + k)) "$turns" | grep -E "^($kinds) " >"$work/requests"
+    "${gen[@]}" $((seed + k)) "$turns" >"$work/generated"
+    if ! grep -E "^($kinds) " "$work/generated" >"$work/requests"; then
+        echo "seed $((seed + k)): among the requests that were generated there is none of $kinds" >&2
+        exit 1
+    fi
     "$ORACLE" <"$work/requests" >"$work/rust"
-    ${run[@]+"${run[@]}"} "$ask" <"$work/requests" >"$work/ask"
+    "${ask[@]}" <"$work/requests" >"$work/ask"
     if ! cmp "$work/rust" "$work/ask"; then
         echo "seed $((seed + k)): different answers, in $work"
         exit 1

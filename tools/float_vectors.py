@@ -1,12 +1,13 @@
 #!/usr/bin/env python3
 """Writes the vectors of crates/float_runs: its stdin, a double's bits on each line, and its stdout, the expected answers.
 
-    python3 tools/float_vectors.py          writes both files anew (the same ones each time: the random numbers have a fixed seed)
-    python3 tools/float_vectors.py --check  says whether the files are what it would write
+    python3 tools/float_vectors.py --write  writes both files anew (the same ones each time: the random numbers have a fixed seed)
+    python3 tools/float_vectors.py --check  says whether the files are the ones that --write writes
+    python3 tools/float_vectors.py --help   prints this
 
 Nothing here uses a float operation: a double is a whole number times a power of two, and every comparison is one of exact integers or
 fractions. Each root is found twice, by bisection over the doubles in order, with squares of fractions, and by math.isqrt; the two must agree.
-The files were made by the first command; the program is held to them by `rt check` and `rt ci`.
+The files were made by --write; the program is held to them by `rt check` and `rt ci`.
 """
 import math, os, random, sys
 from fractions import Fraction
@@ -110,7 +111,13 @@ def inputs():
     for _ in range(40): put(rnd.getrandbits(1) << 63 | bits_of(rnd.randrange(1, 1 << 52), -rnd.randrange(28, 52)))
     return out
 
-def main():
+def main(arguments):
+    if arguments == ['--help']:
+        print(__doc__)
+        return 0
+    if arguments not in (['--write'], ['--check']):
+        print(f"float_vectors.py: it wants --write or --check, not {' '.join(arguments) or 'nothing'}\n{__doc__}", file=sys.stderr)
+        return 2
     given = inputs()
     answers = [answer(b) for b in given]
     texts = {'stdin': ''.join(f'{b:016x}\n' for b in given),
@@ -118,7 +125,7 @@ def main():
     same = True
     for name, text in texts.items():
         path = os.path.join(FOLDER, name)
-        if '--check' in sys.argv:
+        if arguments == ['--check']:
             same = same and open(path).read() == text
         else:
             open(path, 'w').write(text)
@@ -126,4 +133,4 @@ def main():
           f"{sum(k != 0 for _, _, k in answers)} roundings to a number other than 0{'' if same else ': THE FILES DIFFER'}")
     return 0 if same else 1
 
-sys.exit(main())
+sys.exit(main(sys.argv[1:]))

@@ -90,7 +90,11 @@ fn trace(r: &mut Rng, quiet: bool) -> [f64; 24] {
 
 fn main() {
     let words: Vec<String> = std::env::args().skip(1).collect();
-    let args: Vec<u64> = words.iter().take(2).map(|a| a.parse().expect("SEED N")).collect();
+    let args: Vec<u64> = words.iter().take(2).filter_map(|a| a.parse().ok()).collect();
+    if args.len() != 2 || words.len() > 3 || words.get(2).is_some_and(|kind| kind != "quiet" && kind != "noisy") {
+        eprintln!("sample_requests SEED N [quiet|noisy]");
+        std::process::exit(2);
+    }
     let mut r = Rng(args[0]);
     let mut out = std::io::BufWriter::new(std::io::stdout().lock());
     if let Some(kind) = words.get(2) {

@@ -1,14 +1,30 @@
 #!/usr/bin/env bash
-# Shows a trace page: proves and builds the program unpage, and runs it on the page that is given, or on standard input.
-#   bash tools/unpage.sh [PAGE]
-# The program is built for x86-64 Linux; on an Arm machine the toolchain's own emulator runs it. What rt prints goes to standard error.
+# Shows trace pages: proves and builds the program unpage, and prints the counts of each page that is named,
+# or of the one on standard input.
+#   bash tools/unpage.sh [PAGE ..]
+# Where more than one page is named, a line page=PAGE stands before what each gives. A text that is no page
+# gives refused=9. What is proved is said on standard error; the first time takes minutes, later ones about
+# a second.
+# Exit status: 0; 1 where a page was refused, or could not be read or shown, or the proof failed; 2 where an
+# argument is wrong.
 set -euo pipefail
-root=$(cd "$(dirname "$0")/.." && pwd)
-page=${1:-/dev/stdin}
-(cd "$root" && rt check unpage </dev/null >&2)
-run=()
-if [ "$(uname -m)" = aarch64 ]; then
-    kit=$(dirname "$(dirname "$(rt doc)")")
-    run=("$kit/on/aarch64/toolchain/bin/qemu-x86_64" "$kit/toolchain/lib/ld-linux-x86-64.so.2" --library-path "$kit/toolchain/lib")
-fi
-${run[@]+"${run[@]}"} "$root/target/bin/unpage" <"$page"
+. "$(dirname "$0")/common.sh"
+help_if_asked "$@"
+for page in "$@"; do
+    case $page in -*) wrong "there is no option $page" ;; esac
+    if [ ! -e "$page" ]; then wrong "there is no file $page"; fi
+    if [ -d "$page" ] || [ ! -r "$page" ]; then wrong "$page cannot be read as a file"; fi
+done
+prove unpage
+if [ $# -eq 0 ]; then set -- /dev/stdin; fi
+several=$(($# > 1))
+answer=$(mktemp)
+trap 'rm -f "$answer"' EXIT
+status=0
+for page in "$@"; do
+    run unpage <"$page" >"$answer" || status=1
+    if [ "$several" -eq 1 ]; then echo "page=$page"; fi
+    cat "$answer"
+    if grep -q '^refused=' "$answer"; then status=1; fi
+done
+exit "$status"

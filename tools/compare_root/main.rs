@@ -4,10 +4,8 @@
 //     rustc -O tools/compare_root/main.rs -o target/compare_root
 //     target/compare_root 12000000 1 target/bin/float_runs
 //
-// The arguments are how many doubles, the seed of the random numbers, and the words that run the program. On another processor than x86-64
-// the program needs the kit's emulator, so there the words are (with kit=$(dirname "$(dirname "$(rt doc)")")/on/$(uname -m)/toolchain):
-//
-//     $kit/bin/qemu-x86_64 $kit/lib/ld-linux-x86-64.so.2 --library-path $kit/lib target/bin/float_runs
+// The arguments are how many doubles, the seed of the random numbers, and the command that runs the program. On another machine than x86-64
+// that is `bash tools/run.sh float_runs`, which runs it by the toolchain's emulator.
 //
 // Several may run beside each other, with other seeds. Exit status 0: no difference.
 use std::io::{BufRead, BufReader, BufWriter, Write};
@@ -82,8 +80,12 @@ fn expected(b: u64) -> String {
 
 fn main() {
     let words: Vec<String> = std::env::args().collect();
-    let count: u64 = words[1].parse().expect("how many");
-    let seed: u64 = words[2].parse().expect("the seed");
+    let numbers: Vec<u64> = words.iter().skip(1).take(2).filter_map(|a| a.parse().ok()).collect();
+    if numbers.len() != 2 || words.len() < 4 {
+        eprintln!("compare_root COUNT SEED COMMAND ..");
+        std::process::exit(2);
+    }
+    let (count, seed) = (numbers[0], numbers[1]);
     let start = seed.wrapping_mul(0x9e37_79b9_7f4a_7c15) | 1;
     let mut program = Command::new(&words[3]).args(&words[4..]).stdin(Stdio::piped()).stdout(Stdio::piped()).spawn().expect("the program runs");
     let mut input = BufWriter::new(program.stdin.take().unwrap());

@@ -1,20 +1,27 @@
 #!/usr/bin/env bash
 # Puts targets near the decision boundary to a program, which has to answer each with the nearest lattice point.
 #
-#   compare.sh SEED COUNT
+#   PROGRAM=.. bash tools/nearest/compare.sh SEED COUNT
 #
 # The targets and their nearest points are those of tools/nearest/main.rs. From the environment:
-#   PROGRAM  the words that run the program that answers request lines, after an emulator or a loader where it needs one
+#   PROGRAM  the command that runs the program that answers request lines, with an emulator or a loader where it needs one
 #   NEAREST  tools/nearest/main.rs, built; target/nearest_points where it is not set
 # Where an answer is another point it leaves the requests, the points and the answers.
 set -euo pipefail
-if [ $# -ne 2 ] || [ -z "${PROGRAM:-}" ]; then
-    sed -n '2,9s/^# \{0,1\}//p' "$0"
-    exit 2
+. "$(dirname "$0")/../common.sh"
+help_if_asked "$@"
+if [ $# -ne 2 ]; then wrong "it wants two numbers"; fi
+for number in "$@"; do
+    if ! whole_number "$number"; then wrong "$number is not a whole number"; fi
+done
+read -ra program <<<"${PROGRAM:-}"
+if ! command -v "${program[0]:-}" >/dev/null; then wrong "PROGRAM has to name a program"; fi
+nearest=${NEAREST:-$root/target/nearest_points}
+if [ ! -x "$nearest" ]; then
+    wrong "there is no $nearest: rustc -O tools/nearest/main.rs -o target/nearest_points builds it"
 fi
-read -ra program <<<"$PROGRAM"
 work=$(mktemp -d)
-"${NEAREST:-target/nearest_points}" "$1" "$2" "$work/requests" "$work/points"
+"$nearest" "$1" "$2" "$work/requests" "$work/points"
 "${program[@]}" <"$work/requests" >"$work/answers"
 sed 's/^word=[0-9a-f]* score=[0-9a-f]* point=//' "$work/answers" >"$work/answered"
 if ! cmp "$work/points" "$work/answered"; then

@@ -11,10 +11,15 @@
 //
 // The words of a line stand one space apart, and its end is an LF, which the last line may lack. A line that is no
 // request, and one of 1,024 bytes or more, is answered by refused=9.
+//
+// A program of this language has no exit status. So a read or a write that fails is said on standard error,
+// and from then on nothing is answered: what was written is a beginning of the right answers, whose last line
+// may be cut.
 mod parse;
 mod text;
 
 use encoder::Code;
+use libc::STDERR_FILENO;
 use libc::STDIN_FILENO;
 use libc::STDOUT_FILENO;
 use parse::Double;
@@ -190,10 +195,12 @@ fn answer(s: &[u8], out: &mut [u8], to: usize) -> usize {
 
 // ---- the stream
 
-// What is held from byte to byte: so many bytes of a line, and so many of answers.
+// What is held from byte to byte: so many bytes of a line, and so many of answers; and whether each write
+// went well.
 struct Held {
     line: usize,
     out: usize,
+    good: bool,
 }
 
 // How a read went: whether to go on, and how many bytes of a line are held.
@@ -205,6 +212,16 @@ struct Turn {
 // Answers are written once so many bytes of them are held: no answer is longer than what is left of the buffer.
 const FULL: usize = 64512;
 
+// Says on standard error that a read or a write failed. No bytes of a line are held from then on, so nothing
+// more is answered.
+fn failed(what: &[u8]) -> Turn {
+    io::write_all(STDERR_FILENO, what);
+    Turn {
+        more: false,
+        line: 0,
+    }
+}
+
 fn write_out(out: &[u8], n: usize) -> bool {
     if n <= out.len() {
         return io::write_all(STDOUT_FILENO, &out[0..n]);
@@ -212,18 +229,34 @@ fn write_out(out: &[u8], n: usize) -> bool {
     false
 }
 
-// The place of the next answer.
-fn make_room(out: &[u8], n: usize) -> usize {
-    if n < FULL {
-        return n;
+// Writes the answers that are held once they fill the buffer.
+fn make_room(out: &[u8], held: Held) -> Held {
+    if held.out < FULL {
+        return held;
     }
-    write_out(out, n);
-    0
+    Held {
+        line: held.line,
+        out: 0,
+        good: write_out(out, held.out),
+    }
+}
+
+// Writes the rest of the answers. After a write that failed nothing more is written: what follows would stand
+// in the middle of a line.
+fn write_rest(out: &[u8], held: Held) -> Turn {
+    if held.good {
+        if write_out(out, held.out) {
+            return Turn {
+                more: true,
+                line: held.line,
+            };
+        }
+    }
+    failed(b"ask: standard output cannot be written, answers are missing\n")
 }
 
 // Answers the line of which n bytes are held. Where they fill the buffer the line was too long.
 fn end_line(line: &[u8], n: usize, out: &mut [u8], to: usize) -> usize {
-    let to = make_room(out, to);
     if n < line.len() {
         return answer(&line[0..n], out, to);
     }
@@ -235,33 +268,40 @@ fn take(b: u8, line: &mut [u8], out: &mut [u8], held: Held) -> Held {
         return Held {
             line: 0,
             out: end_line(line, held.line, out, held.out),
+            good: held.good,
         };
     }
     Held {
         line: put(line, held.line, b),
         out: held.out,
+        good: held.good,
     }
 }
 
 // Takes bytes of the input, of whose first line n bytes are held, and writes the answers to the lines that end in them.
 fn take_all(bytes: &[u8], line: &mut [u8], out: &mut [u8], n: usize) -> Turn {
-    let mut held = Held { line: n, out: 0 };
+    let mut held = Held {
+        line: n,
+        out: 0,
+        good: true,
+    };
     let mut i = 0;
-    while i < bytes.len() {
-        held = take(bytes[i], line, out, held);
+    while i < bytes.len() && held.good {
+        let taken = take(bytes[i], line, out, held);
+        held = make_room(out, taken);
         i += 1;
     }
-    Turn {
-        more: write_out(out, held.out),
-        line: held.line,
-    }
+    write_rest(out, held)
 }
 
-// Reads once. A read that fails is taken for the end.
+// Reads once. A read that fails is not the end: what is held of a line is then no request.
 fn read_some(line: &mut [u8], out: &mut [u8], n: usize) -> Turn {
     let mut bytes = io::large_buffer();
     let got = libc::read(STDIN_FILENO, &mut bytes);
-    if got <= 0 {
+    if got < 0 {
+        return failed(b"ask: standard input cannot be read, requests are missing\n");
+    }
+    if got == 0 {
         return Turn {
             more: false,
             line: n,
@@ -294,6 +334,13 @@ fn main() {
     let n = answer_all(&mut line, &mut out);
     if n > 0 {
         let end = end_line(&line, n, &mut out, 0);
-        write_out(&out, end);
+        write_rest(
+            &out,
+            Held {
+                line: 0,
+                out: end,
+                good: true,
+            },
+        );
     }
 }

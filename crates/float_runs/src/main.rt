@@ -53,6 +53,14 @@ fn double_of(b: u64) -> f64
     }
 }
 
+// After a write that fails nothing more is written: standard output is closed, and each later write fails
+// too.
+fn or_close(written: bool) {
+    if !written {
+        libc::close(1);
+    }
+}
+
 fn magnitude(k: i32) -> u64
     requires { ⌜ natAbs k ≤ 1000000 ⌝ }
 {
@@ -63,16 +71,16 @@ fn print_signed(k: i32)
     requires { ⌜ natAbs k ≤ 1000000 ⌝ }
 {
     if k < 0 {
-        io::write_all(1, b"-");
+        or_close(io::write_all(1, b"-"));
     }
-    io::print_decimal(1, magnitude(k));
+    or_close(io::print_decimal(1, magnitude(k)));
 }
 
 fn print_root(x: f64) {
     let r = root::root(x);
-    io::print_decimal(1, r.number as u64);
-    io::write_all(1, b" ");
-    io::print_hex(1, f64::to_bits(r.root), 16);
+    or_close(io::print_decimal(1, r.number as u64));
+    or_close(io::write_all(1, b" "));
+    or_close(io::print_hex(1, f64::to_bits(r.root), 16));
 }
 
 fn print_rounded(x: f64) {
@@ -81,9 +89,9 @@ fn print_rounded(x: f64) {
 
 fn print_answer(x: f64) {
     print_root(x);
-    io::write_all(1, b" ");
+    or_close(io::write_all(1, b" "));
     print_rounded(x);
-    io::write_all(1, b"\n");
+    or_close(io::write_all(1, b"\n"));
 }
 
 // Each whole line of s.

@@ -20,9 +20,17 @@ fn end_of(texts: &[u8], at: usize) -> usize
     i
 }
 
+// After a write that fails nothing more is written: standard output is closed, and each later write fails
+// too.
+fn or_close(written: bool) {
+    if !written {
+        libc::close(STDOUT_FILENO);
+    }
+}
+
 fn print_number(key: &[u8], n: u64) {
-    io::write_all(STDOUT_FILENO, key);
-    io::print_decimal(STDOUT_FILENO, n);
+    or_close(io::write_all(STDOUT_FILENO, key));
+    or_close(io::print_decimal(STDOUT_FILENO, n));
 }
 
 fn print(printed: page::Printed)
@@ -30,7 +38,7 @@ fn print(printed: page::Printed)
 {
     let n = printed.length;
     let bytes = printed.bytes;
-    io::write_all(STDOUT_FILENO, &bytes[..n]);
+    or_close(io::write_all(STDOUT_FILENO, &bytes[..n]));
 }
 
 fn answer(text: &[u8]) {
@@ -38,7 +46,7 @@ fn answer(text: &[u8]) {
     let read = page::read(text, &mut cells);
     print_number(b"number=", read.number as u64);
     print_number(b" count=", read.count as u64);
-    io::write_all(STDOUT_FILENO, b"\n");
+    or_close(io::write_all(STDOUT_FILENO, b"\n"));
     print(page::unpage(text));
 }
 

@@ -2,14 +2,22 @@
 use rank::Bound;
 use rank::Ranked;
 
+// After a write that fails nothing more is written: standard output is closed, and each later write fails
+// too.
+fn or_close(written: bool) {
+    if !written {
+        libc::close(1);
+    }
+}
+
 fn text(t: &[u8]) {
-    io::write_all(1, t);
+    or_close(io::write_all(1, t));
 }
 
 // A number after a label.
 fn part(label: &[u8], n: u32) {
     text(label);
-    io::print_decimal(1, n as u64);
+    or_close(io::print_decimal(1, n as u64));
 }
 
 fn magnitude(n: i32) -> u32 {
@@ -22,7 +30,7 @@ fn signed_part(label: &[u8], n: i32) {
     if n < 0 {
         text(b"-");
     }
-    io::print_decimal(1, magnitude(n) as u64);
+    or_close(io::print_decimal(1, magnitude(n) as u64));
 }
 
 fn ranks(rho: [u32; 8]) {
@@ -100,7 +108,7 @@ fn show_pack(rho: [u32; 8]) {
     ranks(rho);
     let row = rank::pack(rho);
     text(b": ");
-    io::print_hex(1, row as u64, 8);
+    or_close(io::print_hex(1, row as u64, 8));
     text(b" unpacks to");
     ranks(rank::unpack(row));
     text(b"\n");

@@ -21,6 +21,9 @@ shared-slice-read-take c = search needs
 take-requires : tie.Need-take-requires Inv-loop μ-loop
 take-requires c κs = search needs
 
+make-room-requires : tie.Need-make-room-requires Inv-loop μ-loop
+make-room-requires c κs = search needs
+
 add-i : tie.Need-add-i Inv-loop μ-loop
 add-i c = search needs
 
@@ -30,8 +33,8 @@ loop-less c = search needs
 loop-again : tie.Need-loop-again Inv-loop μ-loop
 loop-again c = search needs
 
-write-out-requires : tie.Need-write-out-requires Inv-loop μ-loop
-write-out-requires c κs = search needs
+write-rest-requires : tie.Need-write-rest-requires Inv-loop μ-loop
+write-rest-requires c κs = search needs
 
 same-length : tie.Need-same-length Inv-loop μ-loop
 same-length c = search needs
@@ -51,10 +54,11 @@ take-all-spec =
     loop-holds
     shared-slice-read-take
     take-requires
+    make-room-requires
     add-i
     loop-less
     loop-again
-    write-out-requires
+    write-rest-requires
     same-length
     same-length-2
     returns)

@@ -18,10 +18,13 @@ slice-aggregate-write-all c = sym (length-take-le _ _ (array-share-prefix-bytes 
 write-all-requires : tie.Need-write-all-requires
 write-all-requires c κs = search needs
 
+or-close-requires : tie.Need-or-close-requires
+or-close-requires c κs = search needs
+
 returns : tie.Need-returns
 returns c = search needs
 
 pub print-spec : {M : Type 1} → statement M
 print-spec =
     tie.close
-    (tie.spec array-share-prefix-bytes slice-aggregate-write-all write-all-requires returns)
+    (tie.spec array-share-prefix-bytes slice-aggregate-write-all write-all-requires or-close-requires returns)

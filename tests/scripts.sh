@@ -1,0 +1,123 @@
+#!/usr/bin/env bash
+# Tries the scripts on wrong arguments and on right ones, in seconds: a stand-in for rt says what rt would say, and stand-ins for the programs
+# answer what they would answer, so nothing is proved here.
+#   bash tests/scripts.sh
+# Exit status: 0 all is as it should be; 1 something is not; 2 a wrong argument.
+set -euo pipefail
+. "$(dirname "$0")/../tools/common.sh"
+help_if_asked "$@"
+if [ $# -ne 0 ]; then wrong "it wants no argument"; fi
+
+work=$(mktemp -d)
+trap 'rm -rf "$work"' EXIT
+mkdir -p "$work/bin" "$work/repo/target/bin" "$work/repo/edits/word"
+cp -r "$root/tools" "$root/tests" "$root/samples" "$work/repo/"
+(cd "$root" && cp --parents crates/*/stdin crates/*/stdout "$work/repo/")
+cat >"$work/bin/rt" <<'STAND_IN'
+#!/usr/bin/env bash
+echo "rt $*" >>"$CALLED"
+case ${RT_SAYS:-ok} in
+ok)
+    printf 'rt: laws proved (unchanged since it was last proved)\n'
+    printf 'fn word::get: proved\nrt: word proved (13 s)\nrt: ok, 2 crates proved\n'
+    ;;
+*) printf 'fn word::get: not proved\nrt: word NOT PROVED (exit 1, 3 s)\nrt: FAILED: word\n'; exit 1 ;;
+esac
+STAND_IN
+# Answers the example of document 01 where the input is that page, and refuses any other; and reads nothing where it is told to.
+cat >"$work/repo/target/bin/unpage" <<'STAND_IN'
+#!/usr/bin/env bash
+if [ -n "${FAILS:-}" ]; then echo "unpage: standard input cannot be read" >&2; exit 0; fi
+if grep -q 'count=1'; then echo block=0; echo counts=1,1,1,1,1,1,1,1,1,1,1,1,1,1,1,1,1,1,1,1,1,1,1,-2; else echo refused=9; fi
+STAND_IN
+cat >"$work/repo/target/bin/ask" <<'STAND_IN'
+#!/usr/bin/env bash
+while read -r line; do case $line in 'decode 1') echo point=1 ;; *) echo refused=9 ;; esac; done
+STAND_IN
+chmod +x "$work/bin/rt" "$work/repo/target/bin/"*
+export PATH=$work/bin:$PATH RUN=env CALLED=$work/called
+unset ORACLE ASK GEN KINDS PROGRAM NEAREST UNPAGE PROGRAMS
+cd "$work/repo"
+echo text >no.page
+sums() { sha256sum crates/*/stdin crates/*/stdout; }
+before=$(sums)
+
+good=0 bad=0
+# try STATUS PATTERN COMMAND ..: the command ends with that status, and what it prints, both ways, has a line with the pattern.
+try() {
+    local status=0 said
+    : >"$CALLED"
+    said=$("${@:3}" 2>&1 </dev/null) || status=$?
+    if [ "$status" -eq "$1" ] && grep -q -e "$2" <<<"$said"; then
+        good=$((good + 1))
+    else
+        bad=$((bad + 1))
+        printf '%s: status %s and not %s, or no line with %s in\n%s\n' "${*:3}" "$status" "$1" "$2" "$said"
+    fi
+}
+# untouched STATUS PATTERN COMMAND ..: and rt is not called.
+untouched() {
+    try "$@"
+    if [ -s "$CALLED" ]; then
+        bad=$((bad + 1))
+        echo "${*:3}: it called $(cat "$CALLED")"
+    fi
+}
+
+for script in tools/*.sh tools/nearest/*.sh tests/*.sh; do
+    case $script in tools/common.sh | tools/bindings.sh | tools/native.sh) continue ;; esac
+    untouched 0 "bash $script" bash "$script" --help
+    untouched 2 "bash $script" bash "$script" --no-such-option
+done
+for script in tools/float_vectors.py tests/pages.py tests/writes.py; do
+    untouched 0 "$script" python3 "$script" --help
+    untouched 2 "$script" python3 "$script" --no-such-option
+    untouched 2 "$script" python3 "$script" word
+done
+
+untouched 2 'no file no/such.page' bash tools/unpage.sh samples/example.page no/such.page
+untouched 2 'cannot be read' bash tools/unpage.sh samples
+try 0 '^counts=1,1,' bash tools/unpage.sh samples/example.page
+try 0 '^word is proved (13 s)$' bash tools/unpage.sh samples/example.page
+try 0 '^page=samples/example.page$' bash tools/unpage.sh samples/example.page samples/example.page
+try 1 '^refused=9$' bash tools/unpage.sh
+try 1 '^refused=9$' bash tools/unpage.sh no.page
+try 1 '^counts=1,1,' bash tools/unpage.sh no.page samples/example.page
+try 1 'target/unpage.log has what' env RT_SAYS=no bash tools/unpage.sh samples/example.page
+try 1 'word NOT PROVED' env RT_SAYS=no bash tools/unpage.sh samples/example.page
+try 1 'cannot be read' env FAILS=1 bash tools/unpage.sh samples/example.page
+
+untouched 2 'one page' bash tools/csv.sh samples/example.page samples/example.page
+untouched 2 'no file no/such.page' bash tools/csv.sh no/such.page
+try 0 '^block,sample,count$' bash tools/csv.sh samples/example.page
+try 0 '^0,23,-2$' bash tools/csv.sh samples/example.page
+try 1 '^refused=9$' bash tools/csv.sh no.page
+
+untouched 2 'no request decod' bash tools/ask.sh decod 1
+try 0 '^point=1$' bash tools/ask.sh decode 1
+try 1 '^refused=9$' bash tools/ask.sh decode g
+try 0 '^point=1$' bash -c 'echo decode 1 | bash tools/ask.sh'
+
+untouched 2 'name of one program' bash tools/run.sh
+untouched 2 'no target/bin/nothing' bash tools/run.sh nothing
+untouched 2 'three numbers' bash tools/compare.sh
+untouched 2 'a is not a whole number' env ORACLE=true bash tools/compare.sh a 1 1
+untouched 2 'ORACLE has to name' bash tools/compare.sh 1 1 1
+untouched 2 'ORACLE has to name' env ORACLE=no/such bash tools/compare.sh 1 1 1
+untouched 2 'ASK has to name' env ORACLE=true ASK=no/such bash tools/compare.sh 1 1 1
+untouched 1 'there is none of' env ORACLE=true bash tools/compare.sh 1 1 1
+untouched 2 'two numbers' bash tools/nearest/compare.sh
+untouched 2 'PROGRAM has to name' bash tools/nearest/compare.sh 1 1
+untouched 2 'no .*nearest_points' env PROGRAM=true bash tools/nearest/compare.sh 1 1
+untouched 2 'no edits/nothing' bash tools/edits.sh nothing
+untouched 2 'no program' env UNPAGE=no/such python3 tests/pages.py
+untouched 2 'no program no/such' python3 tests/pages.py --oracle no/such
+untouched 2 'does not know --oracle' python3 tests/pages.py --oracle
+untouched 2 'no program' env PROGRAMS=no/such python3 tests/writes.py
+
+if [ "$(sums)" != "$before" ]; then
+    bad=$((bad + 1))
+    echo "a file that the gate runs a program on was changed"
+fi
+echo "$good as they should be, $bad not"
+[ "$bad" -eq 0 ]

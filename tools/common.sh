@@ -1,0 +1,59 @@
+# What the scripts of this folder share. It is read by them (`. common.sh`) and does nothing by itself.
+# shellcheck shell=bash
+
+root=$(cd "$(dirname "${BASH_SOURCE[0]}")/.." && pwd)
+
+# Prints the head of the script: the comment that follows its first line.
+usage() {
+    awk 'NR == 1 { next } !/^#/ { exit } { sub(/^# ?/, ""); print }' "$0"
+}
+
+# Says what is wrong with the arguments, then what the script wants, and ends with status 2.
+wrong() {
+    echo "$(basename "$0"): $1" >&2
+    usage >&2
+    exit 2
+}
+
+# Answers --help, which stands alone.
+help_if_asked() {
+    if [ "${1:-}" = --help ] || [ "${1:-}" = -h ]; then
+        usage
+        exit 0
+    fi
+}
+
+whole_number() { [[ $1 =~ ^(0|[1-9][0-9]{0,17})$ ]]; }
+
+# Proves and builds the program $1, with a line on standard error for each crate that had to be proved. All
+# that the toolchain says goes to a file.
+prove() {
+    local log=$root/target/$1.log status=0
+    if ! command -v rt >/dev/null; then
+        echo "rt is not on the path: this needs the Rattle toolchain" >&2
+        exit 2
+    fi
+    mkdir -p "$root/target"
+    if [ ! -e "$root/target/bin/$1" ]; then
+        echo "proving and building $1 and the crates that it needs, which takes minutes (log: $log)" >&2
+    fi
+    (cd "$root" && rt check "$1" </dev/null 2>&1) | tee "$log" | awk '
+        /^rt: [^ ]+ proved \([0-9]+ s\)$/ { print $2 " is proved " $4 " " $5; fflush() }' >&2 || status=$?
+    if [ "$status" -ne 0 ]; then
+        grep '^rt: .*\(NOT PROVED\|FAILED\)' "$log" >&2 || tail -n 3 "$log" >&2
+        echo "the program $1 was not built; $log has what the toolchain said" >&2
+        exit 1
+    fi
+}
+
+# Runs the program $1 that is built. The status is 1 where it says on standard error that a read or a write
+# failed: a program of Rattle cannot set its own.
+run() {
+    local said status=0
+    said=$(mktemp)
+    bash "$root/tools/run.sh" "$1" 2>"$said" || status=$?
+    cat "$said" >&2
+    if [ -s "$said" ] && [ "$status" -eq 0 ]; then status=1; fi
+    rm -f "$said"
+    return "$status"
+}
