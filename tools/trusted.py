@@ -1,28 +1,30 @@
 #!/usr/bin/env python3
 """The list of what has to be believed, made from the statements.
 
-    python3 tools/trusted.py             prints the list
-    python3 tools/trusted.py --write     writes it between the two marker lines of docs/PROMISES.md
-    python3 tools/trusted.py --check     exits 1 where the list in docs/PROMISES.md is not the one that the tree gives
-    python3 tools/trusted.py --rest      prints what stands at the top of a crate's specs/ and is needed by no statement
+    python3 tools/trusted.py           prints the list
+    python3 tools/trusted.py --write   writes it between the two marker lines of docs/PROMISES.md
+    python3 tools/trusted.py --check   exits 1 where the list in docs/PROMISES.md is not the tree's
+    python3 tools/trusted.py --rest    prints what stands at the top of specs/ and no statement needs
 
-The prover shows that each function meets its contract and that each theorem's proof is one. What it cannot show is that
-the contracts and the theorems say what was meant. So the definitions that they are written in have to be read. This is
-the rule:
+The prover shows that each function meets its contract and that each theorem's proof is one. What it cannot
+show is that the contracts and the theorems say what was meant. So the definitions that they are written in
+have to be read. This is the rule:
 
-- A statement is the contract of a public function (but for the crates PARTS below), or the type of a promised theorem:
-  one that docs/PROMISES.md names in backquotes.
-- A definition has to be believed if a statement mentions it, or if the type or the body of a definition that has to be
-  believed mentions it. The structs and enums of the calls, in src/, count as definitions.
-- A proof need not be believed. Where a definition mentions a theorem, the theorem's type is followed, and its proof is
-  not.
+- A statement is the contract of a public function (but for the crates PARTS below), or the type of a
+  promised theorem: one that docs/PROMISES.md names in backquotes.
+- A definition has to be believed if a statement mentions it, or if the type or the body of a definition that
+  has to be believed mentions it. The structs and enums of the calls, in src/, count as definitions.
+- A proof need not be believed. Where a definition mentions a theorem, the theorem's type is followed, and its
+  proof is not.
 
-A theorem is told from a definition by a rule of thumb, which lists too much rather than too little. What is marked
-`abbrev` or `unfoldable`, a `data` and a `record` are definitions. Any other name is a theorem only where its type ends in
-an equation, an order, another connective of propositions, or a proposition of this repository; else it is a definition.
-Names are found by their spelling: a bound variable that is spelled like an imported definition counts as that definition.
-A name in docs/PROMISES.md means the theorem of the file that its line names. Where it names none, a name that is a
-definition's or a call's too means that; any other means every theorem of that name.
+A theorem is told from a definition by a rule of thumb, which lists too much rather than too little. What is
+marked `abbrev` or `unfoldable`, a `data` and a `record` are definitions. Any other name is a theorem only
+where its type ends in an equation, an order, another connective of propositions, or a proposition of this
+repository; else it is a definition. Names are found by their spelling: a bound variable that is spelled like
+an imported definition counts as that definition. A name in docs/PROMISES.md means the theorem of the file
+that its line names. Where it names none, a name that is a definition's or a call's too means that; any other
+means every theorem of that name. What the script cannot read is an error, and no list is made.
+
 A definition's lines are those of its type and its clauses, without comments and blank lines.
 """
 import re
@@ -34,20 +36,20 @@ PROMISES = ROOT / 'docs' / 'PROMISES.md'
 BEGIN, END = '<!-- trusted: begin -->', '<!-- trusted: end -->'
 WIDTH = 150
 
-# The page of the demands, which is read first; and the parts of `encoder`, whose contracts and theorems are no promises:
-# the contracts of `encoder` cite the definition of the search alone, and what its parts say to each other is used by
-# proofs only. The public functions of all other crates are calls for users.
+# The page of the demands, which is read first; and the parts of `encoder`, whose contracts and theorems are
+# no promises: the contracts of `encoder` cite the definition of the search alone, and what its parts say to
+# each other is used by proofs only. The public functions of all other crates are calls for users.
 PAGE = 'promise'
 PARTS = 'coord solve join resolve parity'.split()
 
-# What a type ends in, where it is a proposition. `×` joins propositions here; a pair of data is seen by its parts.
+# What a type ends in, where it is a proposition. A product is one if a part of it is.
 CONNECTIVES = set('≡ ≢ < ≤ > ≥ ↔ ⊎ ⊥ ∈ ∉ ≈'.split())
 EVIDENCE = {'T', 'Dec', '¬', 'Path', 'IsProp', 'IsSet'}
-KEYWORDS = set('''data record deriving module where use mod pub package using open as unfoldable abbrev axiom unfold
-    unfolding ruleset mutual infix infixl infixr elim let in do λ ∀ Type → : = | ↦ ← _ ×'''.split())
+KEYWORDS = set('''data record deriving module where use mod pub package using open as unfoldable abbrev axiom
+    unfold unfolding ruleset mutual infix infixl infixr elim let in do λ ∀ Type → : = | ↦ ← _ ×'''.split())
 
-# A name is a run of characters other than these and spaces. A dot before a name is a field's or a module's; one behind
-# the variables of a `λ` is dropped.
+# A name is a run of characters other than these and spaces. A dot before a name is a field's or a module's;
+# one behind the variables of a `λ` is dropped.
 TOKEN = re.compile(r'"(?:[^"\\]|\\.)*"|\.(?=\S)|[(){};,@«»]|[^\s(){}.;,@"«»]+')
 
 
@@ -56,7 +58,7 @@ class Unread(Exception):
 
 
 class Item:
-    """A definition or a theorem: where it stands, its type, its body, the parameters of the blocks around it."""
+    """A definition or a theorem: its place, its type, its body, the parameters of the blocks around it."""
 
     def __init__(self, place, name, kind, marks, around):
         self.place, self.name, self.kind, self.marks, self.around = place, name, kind, marks, around
@@ -117,8 +119,9 @@ class Spec:
         return rest
 
     def use(self, text):
-        m = re.match(r'.*?use +(\S+?)(?:\.\{(.*)\})?(?: +as +(\S+))?;?$', text.replace('{ ', '{').replace(' }', '}'))
-        path, names, alias = m.group(1), m.group(2), m.group(3)
+        text = text.replace('{ ', '{').replace(' }', '}')
+        found = re.match(r'.*?use +(\S+?)(?:\.\{(.*)\})?(?: +as +(\S+))?;?$', text)
+        path, names, alias = found.groups()
         module = module_of(path)
         if names is None:
             self.modules[alias or path.split('.')[-1]] = module
@@ -150,7 +153,8 @@ class Spec:
                 while not lines[i]:
                     i += 1
                 inner = len(lines[i]) - len(lines[i].lstrip())
-                blocks.append((inner, blocks[-1][1] + tokens(text.replace('module _', '').replace('where', ''))))
+                around = tokens(text.replace('module _', '').replace('where', ''))
+                blocks.append((inner, blocks[-1][1] + around))
                 item = None
                 continue
             found = re.match(r'((?:unfoldable |abbrev |pub |axiom )*)(data |record )?(.*)$', text)
@@ -178,7 +182,8 @@ class Spec:
             if item.kind != 'def':
                 item.body += tokens(text)
                 if item.kind == 'data':
-                    for name in (text.split(' : ')[0] if ' : ' in text else '').replace('pub ', '').split():
+                    names, colon, _ = text.replace('pub ', '').partition(' : ')
+                    for name in names.split() if colon else []:
                         made = Item(self.place, name, 'constructor', [], [])
                         made.of = item.name
                         self.items.setdefault(name, made)
@@ -191,7 +196,8 @@ class Spec:
 def is_signature(text):
     """NAME .. : TYPE, at the start of an item: what stands before the colon is names alone."""
     head, colon, _ = (text + ' ').partition(' : ')
-    return bool(colon) and not re.search(r'[(=]', re.sub(r'\{[^}]*\}', '', head)) and '{' not in head.split()[0]
+    names = re.sub(r'\{[^}]*\}', '', head)
+    return bool(colon) and not re.search(r'[(=]', names) and '{' not in head.split()[0]
 
 
 def module_of(path):
@@ -217,12 +223,14 @@ class Source:
             Spec.use(self, ' '.join(use.split()))
         for path_, name in re.findall(r'^(?:pub )?use ([\w:]+)::(\w+);', text, re.M):
             self.types[name] = path_
-        for kind, name, body in re.findall(r'^(?:pub(?:\([^)]*\))? )?(struct|enum) (\w+)(.*?^\}|\([^)]*\);)', text, re.M | re.S):
+        types = r'^(?:pub(?:\([^)]*\))? )?(struct|enum) (\w+)(.*?^\}|\([^)]*\);)'
+        for kind, name, body in re.findall(types, text, re.M | re.S):
             item = Item(self.place, name, kind, [], [])
             item.body = tokens(body)
             item.lines = len([l for l in body.split('\n') if l.strip()])
             self.items[name] = item
-        for found in re.finditer(r'^ *pub (?:extern "C" )?fn (\w+)(.*?)(?:^ *|\) *|-> *\S+ +)\{$', text, re.M | re.S):
+        calls = r'^ *pub (?:extern "C" )?fn (\w+)(.*?)(?:^ *|\) *|-> *\S+ +)\{$'
+        for found in re.finditer(calls, text, re.M | re.S):
             self.calls[found.group(1)] = tokens(found.group(2).replace('::', ' '))
 
 
@@ -248,7 +256,7 @@ class Tree:
 
     def struct(self, crate, name):
         """A struct or enum of a crate, by its name."""
-        for place, source in self.sources.items():
+        for source in self.sources.values():
             if source.crate == crate and name in source.items:
                 return source.items[name]
         return None
@@ -263,7 +271,7 @@ class Tree:
         return None
 
     def item(self, module, name):
-        """What a `use` line brings in; a name that is not found would be left out of the list, so it is an error."""
+        """What a `use` line brings in. A name that is not found would be missing in the list: an error."""
         if isinstance(module, tuple):  # declared in src/
             place, struct = module
             if place in self.sources and struct in self.sources[place].items:
@@ -341,7 +349,7 @@ class Tree:
 
     # ---- the closure
     def closure(self, roots, known):
-        """The definitions that the roots mention, with those that these mention; `known` ones are left out."""
+        """The definitions that the roots mention, with those that these mention, but for the known ones."""
         todo, seen, theorems = list(roots), dict(known), set()
         while todo:
             item = todo.pop()
@@ -385,7 +393,7 @@ class Tree:
         return out
 
     def promised(self):
-        """What the theorems mention that docs/PROMISES.md names, and all else there that may be a theorem."""
+        """What the theorems mention that docs/PROMISES.md names, with all else there that may be one."""
         out, text = [], PROMISES.read_text(encoding='utf-8')
         if BEGIN in text and END in text:
             text = text[:text.index(BEGIN)] + text[text.index(END):]
@@ -415,7 +423,7 @@ def ending(words):
 def fields(words):
     """The types of a record's fields."""
     out, level = [], 0
-    for k, word in enumerate(words):
+    for word in words:
         level += (word in '({') - (word in ')}')
         if level == 0 and word == ':':
             out.append([])
@@ -438,7 +446,7 @@ def wrapped(text):
 
 
 def part(tree, items, title):
-    """One part of the list, file by file, with its number of definitions, of lines, and of lines of tables."""
+    """One part of the list, file by file; its numbers of definitions, of lines, and of lines of tables."""
     files = {}
     for item in items.values():
         files.setdefault(item.place, []).append(item)
@@ -448,30 +456,34 @@ def part(tree, items, title):
         every = sorted(files[place], key=lambda i: order.index(i.name))
         tables += sum(i.lines for i in every if i.table())
         shown = place + '.rt' if place in tree.sources else place
-        rows += wrapped('- %s, %d: %s' % (shown, sum(i.lines for i in every), ' '.join(i.name for i in every)))
-    lines = sum(i.lines for i in items.values())
-    return ['**%s:** %s.' % (title, counted(len(items), lines, tables)), ''] + rows + [''], (len(items), lines, tables)
+        lines = sum(i.lines for i in every)
+        rows += wrapped('- %s, %d: %s' % (shown, lines, ' '.join(i.name for i in every)))
+    sizes = (len(items), sum(i.lines for i in items.values()), tables)
+    return ['**%s:** %s.' % (title, counted(*sizes)), ''] + rows + [''], sizes
 
 
 def counted(definitions, lines, tables):
-    return '%d definitions, %d lines%s' % (definitions, lines, ', %d of them tables of numbers' % tables if tables else '')
+    of_tables = ', %d of them tables of numbers' % tables if tables else ''
+    return '%d definitions, %d lines%s' % (definitions, lines, of_tables)
 
 
 def listed(tree):
     """The whole list as text, and what it lists."""
-    page_items = [i for s in tree.specs.values() if s.place.startswith(PAGE + '/specs/') for i in s.items.values()
-                  if i.kind != 'constructor']
-    page = tree.closure(tree.contracts(lambda crate: crate == PAGE) + page_items, {})
+    demands = [item for spec in tree.specs.values() if spec.place.startswith(PAGE + '/specs/')
+               for item in spec.items.values() if item.kind != 'constructor']
+    page = tree.closure(tree.contracts(lambda crate: crate == PAGE) + demands, {})
     calls = tree.closure(tree.contracts(lambda crate: crate not in PARTS), page)
     theorems = tree.closure(tree.promised(), {**page, **calls})
     out, sums = ['Each file below crates/, with the lines of its definitions that count here.', ''], (0, 0, 0)
-    for title, items in (('For the page of the demands', page), ('Besides, for the contracts of single calls', calls),
+    for title, items in (('For the page of the demands', page),
+                         ('Besides, for the contracts of single calls', calls),
                          ('Besides, for the other theorems named in this document', theorems)):
         rows, sizes = part(tree, items, title)
         out, sums = out + rows, tuple(a + b for a, b in zip(sums, sizes))
     out += ['**In all:** %s. Of the toolchain\'s library they use:' % counted(*sums), '']
     for module in sorted(tree.library):
-        out += wrapped('- %s: %s' % (module, ' '.join('`%s`' % name for name in sorted(tree.library[module]))))
+        names = ' '.join('`%s`' % name for name in sorted(tree.library[module]))
+        out += wrapped('- %s: %s' % (module, names))
     return '\n'.join(out), {**page, **calls, **theorems}
 
 
@@ -512,7 +524,7 @@ def main(argv):
     new = front + '\n' + text + '\n' + back
     if argv == ['--check']:
         if page != new:
-            print('the list in docs/PROMISES.md is not the one that the tree gives: run tools/trusted.py --write')
+            print('the list in docs/PROMISES.md is not the one that the tree gives: tools/trusted.py --write')
             return 1
         print('the list in docs/PROMISES.md is the one that the tree gives')
         return 0
