@@ -1,4 +1,5 @@
--- each file over those before it: exact values and comparisons; the errors of rounding and of each operation; the margin; whole numbers
+-- each file over those before it: exact values and comparisons; the errors of rounding and of each operation; the margin; whole numbers; worked
+-- examples
 pub mod Exact
 pub mod Compare
 pub mod Error
@@ -8,3 +9,4 @@ pub mod Relative
 pub mod Margin
 pub mod Rounding
 pub mod Arrays
+pub mod Examples

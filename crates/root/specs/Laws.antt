@@ -1,5 +1,6 @@
 -- How the computed root is the nearest double (Nearest.antt): the whole root, the whole number nearest to the root, the doubles beside it, and
 -- the digits of the radicand; and bounds on a root from those on its square. Assumes nothing.
+pub mod Examples
 use mathlib.Core.Path.{_≡_, refl, sym, ap, ap₂, _∙_, subst}
 use mathlib.Core.Bool.{Bool, true, false, cond, not}
 use mathlib.Core.Logic.{inl, inr}

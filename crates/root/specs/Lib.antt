@@ -1,8 +1,7 @@
--- the root, by squares: what a reader has to believe; the theorem; worked examples
+-- the root, by squares: what a reader has to believe; the theorem
 pub mod Root
 pub mod Nearest
-pub mod Examples
--- the theorem's steps
+-- the theorem's steps, and worked examples
 pub mod Laws
 -- what the private functions say to each other
 pub mod Inner

@@ -1,0 +1,179 @@
+-- THE DEMANDS, each said of what the public calls answer. Definitions only: src/lib.rt makes the calls and
+-- ensures what stands here, for every input. In order: words, points, samples, what samples give besides,
+-- roots, pages. Where the definitions stand that this file and the contracts cite, below crates/:
+--   a lattice point, a point that has a word   `LatticePoint`, `HasWord`              tetra/specs/Lattice
+--   the point that a word's fields define      `pointOf`                              tetra/specs/Tetra
+--   the numbers 1 and 2 of samples             `sampleNumber`                         score/specs/Samples
+--   the numbers of a call, in their order      `numberAt`: 7, 3, 1, 2, 4              encoder/specs/Encode
+--                                              `numberOf`: 7, 1, 2                    encoder/specs/Encode
+--   the empty code                             `emptyCode`                            encoder/specs/Encode
+--   the Rust's answers                         `encodeAtScale`, `encodeWith`,         encoder/specs/Encode,
+--                                              `encodeSamples`                        over search/specs
+--   the 24 doubles x / s, each rounded once    `quotientsOf`                          float/specs/Calls
+--   exact squared distance, and 2 ^ -20 in it  `sqDist`, `margin`                     float/specs/Distance
+--   a double's exact magnitude, its sign, +0.0 `magUnits`, `isMinus`, `zero64`        float/specs/Value
+--   the Rust's score of a point                `tOf`                                  score/specs/Score
+--   the Rust's largest magnitude, lower scale  `lowerScale`                           score/specs/Scale
+--   the double nearest to an exact root        `NearestRoot`                          root/specs/Root
+--   a page: its text, its num and its words    `Page`                                 page/specs/Page
+--   its counts                                 `pageCounts`                           page/specs/Counts
+--   what is printed, in an array               `blockTexts`, `refusedText`, `inArray` page/specs/Shown
+-- The structs of the answers (`Encoded`, `Code`, ..) stand in src/ of their crates.
+use mathlib.Core.Path.{_≡_}
+use mathlib.Core.Bool.{true, false}
+use mathlib.Core.Logic.{_≢_, _↔_}
+use mathlib.Core.List.{List, _++_}
+use Prim.Native.Nat.{ℕ, _+_, _*_, _-_, _%_, _^_, _<_, _≤_}
+use lib.Dec.{T}
+use lib.IntN.{ℤ}
+use lib.Ieee.{Float}
+use lib.Ieee.Scale.{finite}
+use lib.ListN.{length, drop, replicate}
+use Rattle.tetra.specs.Lattice.{LatticePoint, HasWord}
+use Rattle.tetra.specs.Tetra.{pointOf}
+use Rattle.tetra.specs.declared.Encoded.{Encoded}
+use Rattle.float.specs.Value.{magUnits, isMinus, zero64}
+use Rattle.float.specs.Calls.{quotientsOf}
+use Rattle.float.specs.Distance.{sqDist, margin}
+use Rattle.root.specs.Root.{NearestRoot}
+use Rattle.root.specs.declared.Rooted.{Rooted}
+use Rattle.score.specs.declared.Scored.{Scored}
+use Rattle.score.specs.declared.Scales.{Scales}
+use Rattle.encoder.specs.declared.Code.{Code}
+use Rattle.encoder.specs.Encode.{emptyCode}
+use Rattle.page.specs.declared.Parsed.{Parsed}
+use Rattle.page.specs.declared.PageRead.{PageRead}
+use Rattle.page.specs.declared.show.Printed.{Printed}
+use Rattle.page.specs.Page.{Page}
+use Rattle.page.specs.Counts.{pageCounts}
+use Rattle.page.specs.Shown.{blockTexts, refusedText, inArray}
+
+-- ---- WORDS (demand 2): `decode` of the word w answers y, `encode` of y answers e
+-- Every word decodes to the point that its fields define, and that is a lattice point that has a word.
+abbrev pub PointOfWord : ℕ → List ℤ → Type 0
+PointOfWord w y = (y ≡ pointOf w) × HasWord y
+
+-- That point encodes to the low 47 bits of the word: without the gain and what stands above it.
+abbrev pub BackToWord : ℕ → Encoded → Type 0
+BackToWord w e = e ≡ record { number = 0; word = w % 2 ^ 47 }
+
+-- ---- POINTS (demand 2): `encode` of the point y answers e, `decode` of e's word answers z
+-- no 64-bit word decodes to y
+abbrev pub NoWord : List ℤ → Type 0
+NoWord y = (w : ℕ) → w < 2 ^ 64 → pointOf w ≢ y
+
+-- A point is refused exactly where no word decodes to it,
+abbrev pub RefusesOthers : List ℤ → Encoded → Type 0
+RefusesOthers y e = (e .number ≢ 0) ↔ NoWord y
+
+-- and accepted, with number 0, exactly where it is a lattice point that has a word.
+abbrev pub AcceptsMembers : List ℤ → Encoded → Type 0
+AcceptsMembers y e = (e .number ≡ 0) ↔ HasWord y
+
+-- The word of an accepted point is below 2 ^ 47 and decodes back to the point.
+abbrev pub KeepsPoint : List ℤ → Encoded → List ℤ → Type 0
+KeepsPoint y e z = e .number ≡ 0 → (e .word < 2 ^ 47) × (z ≡ y)
+
+-- (demand 1) A refusal is number 5 and word 0.
+abbrev pub RefusesBy5 : Encoded → Type 0
+RefusesBy5 e = e .number ≢ 0 → e ≡ record { number = 5; word = 0 }
+
+-- ---- SAMPLES: the call answers c, `decode` of c's word answers y, `encode` of c's point answers e
+-- (demand 1) The call answers its number k, and where that is not 0 the empty code: word 0, 24 zeros, score
+-- +0.0.
+abbrev pub Numbered : ℕ → Code → Type 0
+Numbered k c = (c .number ≡ k) × (k ≢ 0 → c ≡ emptyCode k)
+
+-- (demand 2) The word of an accepted call is below 2 ^ 47 and decodes to its point, and the point encodes to
+-- the word. That the code is the Rust's is an equation in the contract itself.
+abbrev pub KeepsCode : Code → List ℤ → Encoded → Type 0
+KeepsCode c y e = c .number ≡ 0
+    → (c .word < 2 ^ 47) × (y ≡ c .point) × (e ≡ record { number = 0; word = c .word })
+
+-- (demand 3) The point y is nearer to the target t than every other lattice point, by more than 2 ^ -20 in
+-- exact squared distance, which is counted in units of 2 ^ -2148.
+abbrev pub NearestBy : List ℤ → List Float → Type 0
+NearestBy y t = (z : List ℤ) → LatticePoint z → z ≢ y → sqDist y t + margin < sqDist z t
+
+-- Where samples x, a scale s and a setting are accepted, and a point that has a word is so much the nearest
+-- to the rounded quotients x / s, the call answers that point.
+abbrev pub ReturnsNearest : List Float → Float → Code → Type 0
+ReturnsNearest x s c = c .number ≡ 0
+    → (y : List ℤ) → HasWord y → NearestBy y (quotientsOf x s) → c .point ≡ y
+
+-- ---- WHAT SAMPLES GIVE BESIDES (demand 1): the call answers r, and the samples have the number k
+-- `t_of`, where the Rust's score is t: a refusal has the score +0.0.
+abbrev pub Scores : ℕ → Float → Scored → Type 0
+Scores k t r = (k ≡ 0 → r ≡ record { number = 0; score = t })
+    × (k ≢ 0 → r ≡ record { number = k; score = zero64 })
+
+-- `lower_scale`, where the Rust's largest magnitude and lower scale are those of s: a refusal has +0.0 in
+-- each.
+abbrev pub Scaled : ℕ → Scales → Scales → Type 0
+Scaled k s r = (k ≡ 0 → r ≡ record { number = 0; largest = s .largest; scale = s .scale })
+    × (k ≢ 0 → r ≡ record { number = k; largest = zero64; scale = zero64 })
+
+-- ---- ROOTS: `root` of x answers r
+-- The root of a finite double above zero is the double nearest to the exact one,
+abbrev pub RootIsNearest : Float → Rooted → Type 0
+RootIsNearest x r = T (finite x) → isMinus x ≡ false → 0 < magUnits x
+    → (r .number ≡ 0) × NearestRoot x (r .root)
+
+-- either zero is its own root,
+abbrev pub RootOfZero : Float → Rooted → Type 0
+RootOfZero x r = T (finite x) → magUnits x ≡ 0 → r ≡ record { number = 0; root = x }
+
+-- (demand 1) and a NaN, an infinity and a negative are refused by number 7 and +0.0.
+abbrev pub RootRefused : Float → Rooted → Type 0
+RootRefused x r = ((T (finite x) → ⊥) → r ≡ record { number = 7; root = zero64 })
+    × (T (finite x) → isMinus x ≡ true → 0 < magUnits x → r ≡ record { number = 7; root = zero64 })
+
+-- ---- PAGES: the call answers r for the text; of `read`, the buffer that held `old` then holds `new`
+-- the text is no page, with any num and words
+abbrev pub NoPage : List ℕ → Type 0
+NoPage text = (num : ℕ) (words : List ℕ) → Page text num words → ⊥
+
+-- `parse` answers a page by number 0, its num, its count of words, and the words, with zeros behind them up
+-- to 64,
+abbrev pub ParsesPages : List ℕ → Parsed → Type 0
+ParsesPages text r = (num : ℕ) (words : List ℕ) → Page text num words
+    → r ≡ record {
+      number = 0;
+      num = num;
+      count = length words;
+      words = words ++ replicate (64 - length words) 0;
+    }
+
+-- (demand 1) and every other text by number 9 and zeros.
+abbrev pub ParsesNoOther : List ℕ → Parsed → Type 0
+ParsesNoOther text r = NoPage text → r ≡ record { number = 9; num = 0; count = 0; words = replicate 64 0 }
+
+-- `read` answers a page that has room by number 0 and its count of words; its counts stand at the buffer's
+-- start, and the rest of it stays.
+abbrev pub ReadsPages : List ℕ → List ℤ → List ℤ → PageRead → Type 0
+ReadsPages text old new r = (num : ℕ) (words : List ℕ) → Page text num words → 24 * length words ≤ length old
+    → (r ≡ record { number = 0; count = length words })
+    × (new ≡ pageCounts num words ++ drop (24 * length words) old)
+
+-- (demand 1) It answers a text that is no page by number 9 and count 0, and the buffer is untouched;
+abbrev pub RefusesNoPage : List ℕ → List ℤ → List ℤ → PageRead → Type 0
+RefusesNoPage text old new r = NoPage text → (r ≡ record { number = 9; count = 0 }) × (new ≡ old)
+
+-- then a page that has more counts than the buffer has places by number 8 and count 0, and the buffer is
+-- untouched.
+abbrev pub RefusesShort : List ℕ → List ℤ → List ℤ → PageRead → Type 0
+RefusesShort text old new r = (num : ℕ) (words : List ℕ) → Page text num words
+    → length old < 24 * length words → (r ≡ record { number = 8; count = 0 }) × (new ≡ old)
+
+-- There is no third kind of text: what is not answered by number 9 is a page.
+abbrev pub AcceptsPagesOnly : List ℕ → PageRead → Type 0
+AcceptsPagesOnly text r = r .number ≢ 9 → (num : ℕ) × (words : List ℕ) × Page text num words
+
+-- `unpage` prints the blocks of a page, from index 0 on, which are none for an empty page,
+abbrev pub PrintsPages : List ℕ → Printed → Type 0
+PrintsPages text r = (num : ℕ) (words : List ℕ) → Page text num words
+    → r ≡ inArray (blockTexts 0 (length words) (pageCounts num words))
+
+-- and for every other text the line of the refusal alone.
+abbrev pub PrintsRefusal : List ℕ → Printed → Type 0
+PrintsRefusal text r = NoPage text → r ≡ inArray (refusedText 9)

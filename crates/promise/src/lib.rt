@@ -1,0 +1,165 @@
+// The demands over the public calls, on one page. Each function makes a call, and where the demand speaks of
+// it the calls back with the answer, and ensures what is demanded of all those answers, in the words of
+// specs/Demands. None has a `requires`: what stands here holds for every input. That a call ends is part of
+// its proof.
+ghost use mathlib.Core.Path.{_≡_};
+ghost use Rattle.tetra.specs.Tetra.{pointOf};
+ghost use Rattle.tetra.specs.Encode.{encodeOf};
+ghost use Rattle.score.specs.Samples.{sampleNumber};
+ghost use Rattle.score.specs.Score.{tOf};
+ghost use Rattle.score.specs.Scale.{lowerScale};
+ghost use Rattle.encoder.specs.Encode.{numberAt, numberOf, encodeAtScale, encodeWith, encodeSamples};
+ghost use Rattle.promise.specs.Demands.{PointOfWord, BackToWord};
+ghost use Rattle.promise.specs.Demands.{RefusesOthers, AcceptsMembers, KeepsPoint, RefusesBy5};
+ghost use Rattle.promise.specs.Demands.{Numbered, KeepsCode, ReturnsNearest, Scores, Scaled};
+ghost use Rattle.promise.specs.Demands.{RootIsNearest, RootOfZero, RootRefused};
+ghost use Rattle.promise.specs.Demands.{ParsesPages, ParsesNoOther, PrintsPages, PrintsRefusal};
+ghost use Rattle.promise.specs.Demands.{ReadsPages, RefusesNoPage, RefusesShort, AcceptsPagesOnly};
+use encoder::Code;
+use page::PageRead;
+use page::Parsed;
+use page::Printed;
+use root::Rooted;
+use score::Scales;
+use score::Scored;
+use tetra::Encoded;
+
+// A word's point, and what the point encodes to.
+pub struct FromWord {
+    pub point: [i32; 24],
+    pub back: Encoded,
+}
+
+// A point's word, and what the word decodes to.
+pub struct FromPoint {
+    pub coded: Encoded,
+    pub back: [i32; 24],
+}
+
+// The code of samples, what its word decodes to, and what its point encodes to.
+pub struct FromSamples {
+    pub code: Code,
+    pub decoded: [i32; 24],
+    pub encoded: Encoded,
+}
+
+// ---- words and points
+// `decode`, and `encode` of its point.
+pub fn from_word(word: u64) -> FromWord
+    ensures { λ r. ⌜ PointOfWord word (r .point) ⌝ }
+    ensures { λ r. ⌜ BackToWord word (r .back) ⌝ }
+{
+    let point = tetra::decode(word);
+    let back = tetra::encode(point);
+    FromWord { point, back }
+}
+
+// `encode`, and `decode` of its word.
+pub fn from_point(point: [i32; 24]) -> FromPoint
+    ensures { λ r. ⌜ RefusesOthers point (r .coded) ⌝ }
+    ensures { λ r. ⌜ AcceptsMembers point (r .coded) ⌝ }
+    ensures { λ r. ⌜ KeepsPoint point (r .coded) (r .back) ⌝ }
+    ensures { λ r. ⌜ RefusesBy5 (r .coded) ⌝ }
+{
+    let coded = tetra::encode(point);
+    let back = tetra::decode(coded.word);
+    FromPoint { coded, back }
+}
+
+// ---- samples
+// `encode_at_scale`, at any setting of the shrinks, with `decode` of its word and `encode` of its point. Its
+// code is the one of the Rust's search, which `encodeAtScale` defines float operation by float operation.
+pub fn at_scale(samples: [f64; 24], scale: f64, setting: u32) -> FromSamples
+    ensures { λ r. ⌜ Numbered (numberAt samples scale setting) (r .code) ⌝ }
+    ensures { λ r. ⌜ r .code ≡ encodeAtScale samples scale setting ⌝ }
+    ensures { λ r. ⌜ KeepsCode (r .code) (r .decoded) (r .encoded) ⌝ }
+    ensures { λ r. ⌜ ReturnsNearest samples scale (r .code) ⌝ }
+{
+    with_back(encoder::encode_at_scale(samples, scale, setting))
+}
+
+// `encode_with`, in the same way: at the scale that the samples give.
+pub fn with_setting(samples: [f64; 24], setting: u32) -> FromSamples
+    ensures { λ r. ⌜ Numbered (numberOf samples setting) (r .code) ⌝ }
+    ensures { λ r. ⌜ r .code ≡ encodeWith samples setting ⌝ }
+    ensures { λ r. ⌜ KeepsCode (r .code) (r .decoded) (r .encoded) ⌝ }
+{
+    with_back(encoder::encode_with(samples, setting))
+}
+
+// The sample encoder's `encode`, in the same way: it names no setting.
+pub fn at_own_scale(samples: [f64; 24]) -> FromSamples
+    ensures { λ r. ⌜ Numbered (sampleNumber samples) (r .code) ⌝ }
+    ensures { λ r. ⌜ r .code ≡ encodeSamples samples ⌝ }
+    ensures { λ r. ⌜ KeepsCode (r .code) (r .decoded) (r .encoded) ⌝ }
+{
+    with_back(encoder::encode(samples))
+}
+
+// A code, `decode` of its word and `encode` of its point.
+fn with_back(code: Code) -> FromSamples
+    ensures { λ r. ⌜ r .code ≡ code ⌝ }
+    ensures { λ r. ⌜ r .decoded ≡ pointOf (r .code .word) ⌝ }
+    ensures { λ r. ⌜ r .encoded ≡ encodeOf (r .code .point) ⌝ }
+{
+    let decoded = tetra::decode(code.word);
+    let point = code.point;
+    let encoded = tetra::encode(point);
+    FromSamples {
+        code,
+        decoded,
+        encoded,
+    }
+}
+
+// ---- what samples give besides
+// `t_of`.
+pub fn score_of(samples: [f64; 24], point: [i32; 24]) -> Scored
+    ensures { λ r. ⌜ Scores (sampleNumber samples) (tOf samples point) r ⌝ }
+{
+    score::t_of(samples, point)
+}
+
+// `lower_scale`.
+pub fn scale_of(samples: [f64; 24]) -> Scales
+    ensures { λ r. ⌜ Scaled (sampleNumber samples) (lowerScale samples) r ⌝ }
+{
+    score::lower_scale(samples)
+}
+
+// ---- roots
+// `root`.
+pub fn root_of(x: f64) -> Rooted
+    ensures { λ r. ⌜ RootIsNearest x r ⌝ }
+    ensures { λ r. ⌜ RootOfZero x r ⌝ }
+    ensures { λ r. ⌜ RootRefused x r ⌝ }
+{
+    root::root(x)
+}
+
+// ---- pages
+// `parse`.
+pub fn parsed_page(text: &[u8]) -> Parsed
+    ensures { λ r. ⌜ ParsesPages (now (text .entry)) r ⌝ }
+    ensures { λ r. ⌜ ParsesNoOther (now (text .entry)) r ⌝ }
+{
+    page::parse(text)
+}
+
+// `read`.
+pub fn from_page(text: &[u8], out: &mut [i32]) -> PageRead
+    ensures { λ r. ⌜ ReadsPages (now (text .entry)) (now (out .entry)) (now (out .exit)) r ⌝ }
+    ensures { λ r. ⌜ RefusesNoPage (now (text .entry)) (now (out .entry)) (now (out .exit)) r ⌝ }
+    ensures { λ r. ⌜ RefusesShort (now (text .entry)) (now (out .entry)) (now (out .exit)) r ⌝ }
+    ensures { λ r. ⌜ AcceptsPagesOnly (now (text .entry)) r ⌝ }
+{
+    page::read(text, out)
+}
+
+// `unpage`.
+pub fn printed_page(text: &[u8]) -> Printed
+    ensures { λ r. ⌜ PrintsPages (now (text .entry)) r ⌝ }
+    ensures { λ r. ⌜ PrintsRefusal (now (text .entry)) r ⌝ }
+{
+    page::unpage(text)
+}
