@@ -20,7 +20,7 @@ status 1, or prints how much it looked at and ends with status 0. What it takes 
   ```antt FILE               the block stands in FILE word by word; a line '..' leaves something out
 
 An item is a paragraph, a point of a list or a row of a table; the files of a row are those of all its
-columns. Text between <!-- and -->, and between the marks of the trusted list, is passed over.
+columns. Text between <!-- and -->, and between the marks of the trusted list and of the key, is passed over.
 
 Besides, each public function of the crates has to be named by the first lines of two edits or more, of
 code and not of a definition; those of crate promise, which only make the calls of the others, need none."""
@@ -250,7 +250,7 @@ def main(words):
               file=sys.stderr)
         return 2
     text = read(path)
-    for passed in (r'<!-- trusted: begin -->.*?<!-- trusted: end -->', r'<!--.*?-->'):
+    for passed in (r'<!-- (trusted|notation): begin -->.*?<!-- \1: end -->', r'<!--.*?-->'):
         text = re.sub(passed, lambda m: '\n' * m.group(0).count('\n'), text, flags=re.S)
     tree, report, base = Tree(), Report(), None
     for number, item in items(text):
