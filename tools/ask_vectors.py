@@ -5,8 +5,9 @@
 
 VECTORS is the folder of answers of the Rust, a case a line: decode.txt and point.txt, a word and its point, or a point and its word or none;
 scale.txt and kill.txt, samples at a scale and their code; encode.txt, samples, their code and their lower scale; score.txt, samples, a point
-and its score. ORACLE is a program that answers request lines by the Rust: each line here that is a request is put to it too and has to be
-answered as here. It also says the points of the codes of encode.txt, which has their words alone.
+and its score; shrinks.txt, requests with their answers, some of which change with each shrink that is changed. ORACLE is a program that
+answers request lines by the Rust: each line here that is a request is put to it too and has to be answered as here. It also says the points
+of the codes of encode.txt, which has their words alone.
 """
 import os
 import subprocess
@@ -61,6 +62,11 @@ def scores(folder):
     return [("score " + r[0].replace(",", " ") + " " + r[1].replace(",", " "), f"score={r[2]}") for r in rows(folder, "score.txt")]
 
 
+def shrinks(folder):
+    """shrinks.txt: a request, =>, its answer."""
+    return [tuple(" ".join(row).split(" => ")) for row in rows(folder, "shrinks.txt")]
+
+
 def point(coordinates):
     return " ".join(["point"] + coordinates)
 
@@ -111,7 +117,8 @@ def main():
     if len(sys.argv) != 3:
         sys.exit(__doc__)
     folder, oracle = sys.argv[1:]
-    good = decodes(folder) + points(folder) + scales(folder) + autos(folder, oracle) + lowers(folder) + scores(folder) + odd()
+    good = decodes(folder) + points(folder) + scales(folder) + autos(folder, oracle) + lowers(folder) + scores(folder)
+    good += shrinks(folder) + odd()
     last = ("decode 1", next(answer for line, answer in good if line == "decode 0000000000000001" or line == "decode 1"))
     answered(oracle, good + [last])
     cases = good + bad() + [last]

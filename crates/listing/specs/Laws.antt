@@ -1,2 +1,3 @@
 pub mod Growth
 pub mod Listed
+pub mod Refusals

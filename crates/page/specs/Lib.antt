@@ -7,5 +7,7 @@ pub mod Shown
 -- the reader as a definition, and the page rule: it accepts just the pages
 pub mod Reader
 pub mod PageRule
+-- document 01's example, and the limits
+pub mod Examples
 -- its proof
 pub mod Laws

@@ -4,3 +4,4 @@ pub mod Vector
 pub mod Bound
 pub mod Section
 pub mod Lookup
+pub mod Refusals

@@ -1,3 +1,5 @@
 pub mod Orders
 pub mod Point
 pub mod Word
+-- what holds the fields' places, the code, trio order and the rows fast
+pub mod Pinned

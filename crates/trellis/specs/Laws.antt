@@ -10,3 +10,4 @@ pub mod Back
 pub mod StateBytes
 pub mod Trio
 pub mod Numbering
+pub mod Golay

@@ -1,14 +1,14 @@
--- Worked examples, computed. Assumes nothing.
+-- Worked examples, computed; and the margin and the million by what they are. Assumes nothing.
 use mathlib.Core.Path.{_≡_, refl}
-use mathlib.Core.Bool.{true}
+use mathlib.Core.Bool.{true, false}
 use mathlib.Core.List.{[], _∷_}
-use Prim.Native.Nat.{_<_}
+use Prim.Native.Nat.{_*_, _^_, _<_}
 use lib.Dec.{T, lit≤}
 use lib.IntN.{ℤ, pos, negsuc, natAbs}
-use lib.Ieee.{nan, inf, binary64, ofBits, lt}
-use Rattle.float.specs.Value.{magUnits, zero64}
-use Rattle.float.specs.Calls.{halfUp, roundAway, clamped, rounded}
-use Rattle.float.specs.Distance.{sqDist, floatDist}
+use lib.Ieee.{nan, inf, binary64, ofBits, round, size, lt}
+use Rattle.float.specs.Value.{U, magUnits, zero64}
+use Rattle.float.specs.Calls.{million64, halfUp, roundAway, clamped, rounded}
+use Rattle.float.specs.Distance.{margin, sqDist, floatDist}
 use Rattle.float.specs.Laws.Exact.{zero-fits}
 use Rattle.float.specs.Laws.Margin.{Tame, AllTame, margin-decides}
 
@@ -16,6 +16,15 @@ use Rattle.float.specs.Laws.Margin.{Tame, AllTame, margin-decides}
 least-units : magUnits (ofBits binary64 1) ≡ 1
 unfolding magUnits ofBits
 least-units = refl
+
+-- ---- 2 ^ 20 margins are one, in units of 2 ^ -2148: the square of one in units of 2 ^ -1074
+margin-is : margin * 2 ^ 20 ≡ U * U
+margin-is = refl
+
+-- ---- a million is the double nearest to 10 ^ 6
+million-nearest : million64 ≡ round binary64 false (10 ^ 6) 1
+unfolding round size
+million-nearest = refl
 
 -- ---- halves go away from zero: -0.5, 0.5, 2.5 and -2.5
 minus-half : rounded (ofBits binary64 0xbfe0_0000_0000_0000) ≡ negsuc 0

@@ -4,13 +4,13 @@ use mathlib.Core.Bool.{Bool, true, false, cond, _&&_}
 use mathlib.Core.List.{List, [], _∷_}
 use Prim.Native.Nat.{ℕ, _<_, _≤_}
 use native.Mathlib.Omega.{arith}
-use borrow.Author.Tests.{lt-ltb, eq-eqb, ltb-true, eqb-true}
+use borrow.Author.Tests.{lt-ltb, le-ltb, eq-eqb, ltb-true, eqb-true}
 use lib.Dec.{T, ltb, eqb}
 use lib.IntN.{ℤ}
 use Rattle.laws.specs.Whole.{modZ}
 use Rattle.rank.specs.Coord.{rankOf, valOf}
 use Rattle.rank.specs.Laws.Coord.{member, member-of, val-rank}
-use Rattle.rank.specs.Vector.{ranksBelow}
+use Rattle.rank.specs.Vector.{ranksBelow, sq}
 use Rattle.rank.specs.Laws.Vector.{rank-first, rank-rest}
 use Rattle.rank.specs.Section.{ranksOf}
 use Rattle.rank.specs.Answers.{reach, valuedOf, rankedOf, noRank, markOf, marksOf}
@@ -24,9 +24,19 @@ ranked-found o y r ho hr e =
     let m : modZ y 4 ≡ o = ap (λ (z : ℤ). modZ z 4) (sym e) ∙ member-of o r ho (omega arith) in
     rw (lt-ltb o 4 ho, q, m, eq-eqb o o refl, lt-ltb r reach hr)
 
--- ---- the lookup and val undo each other: of ranks up to 4, and wherever a rank is answered
-pub rank-of-val : (o r : ℕ) → o < 4 → r ≤ 4 → rankedOf o (valOf o r) ≡ Rank r
+-- ---- the lookup and val undo each other: of all ranks that val accepts, and wherever a rank is answered
+pub rank-of-val : (o r : ℕ) → o < 4 → r < 8 → rankedOf o (valOf o r) ≡ Rank r
 rank-of-val o r ho hr = ranked-found o (valOf o r) r ho (omega arith) refl
+
+-- and from rank 8 on the lookup answers nothing
+pub rank-past : (o : ℕ) (y : ℤ) → o < 4 → 8 ≤ rankOf y → rankedOf o y ≡ Nothing
+unfolding rankedOf
+rank-past o y ho h = go (eqb (modZ y 4) o) (le-ltb (rankOf y) reach (omega arith))
+  where
+    go : (b : Bool) → ltb (rankOf y) reach ≡ false
+        → cond (ltb o 4) (cond (b && ltb (rankOf y) reach) (Rank (rankOf y)) Nothing) Refused ≡ Nothing
+    go true e = rw (lt-ltb o 4 ho, e)
+    go false e = rw (lt-ltb o 4 ho)
 
 -- what the answer of a rank says
 ranked-says : (o : ℕ) (y : ℤ) (r : ℕ) → rankedOf o y ≡ Rank r → (o < 4) × (modZ y 4 ≡ o) × (rankOf y ≡ r) × (r < reach)
@@ -59,6 +69,13 @@ mark-lt y = go (ltb (rankOf y) reach) refl
     go : (b : Bool) → ltb (rankOf y) reach ≡ b → cond b (rankOf y) noRank < 16
     go true e = omega (arith, ltb-true (rankOf y) reach e)
     go false e = omega arith
+
+-- from rank 8 on the mark is 15, whose weight is 961
+pub mark-past : (y : ℤ) → 8 ≤ rankOf y → (markOf y ≡ 15) × (sq (markOf y) ≡ 961)
+unfolding markOf
+mark-past y h =
+    let e : cond (ltb (rankOf y) reach) (rankOf y) noRank ≡ 15 = rw (le-ltb (rankOf y) reach (omega arith)) in
+    (e, ap sq e)
 
 -- a mark below b is the rank
 mark-is : (b : ℕ) → b ≤ noRank → (y : ℤ) → markOf y < b → markOf y ≡ rankOf y
