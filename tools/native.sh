@@ -41,6 +41,12 @@ exec "$own/toolchain/bin/clang" "\$@"
 WRAPPER
 chmod +x "$tools/bin/clang"
 
+# Proves crates as `rt check` does, with a line for each that was not proved yet.
+prove() {
+    rt check "$@" 2>&1 | tee "$work/rt.log" | sed -n '/^rt: .* proved ([0-9]* s)/p' >&2 ||
+        { tail -n 20 "$work/rt.log" >&2; echo "native.sh: not proved; target/native/rt.log has the whole log" >&2; exit 1; }
+}
+
 # Proves a crate and has the compiler write the file $3 for x86-64, by the words that `rt` uses.
 build() { # CRATE ROOT FILE [WORDS ..]
     local crate=$1 root=$2 file=$3 d words
@@ -73,7 +79,8 @@ for crate in "$@"; do
     if reaches_os "$crate"; then echo "native.sh: $crate reaches the library os, whose C code is for x86-64 alone" >&2; exit 2; fi
     needed=()
     for d in $(deps_of "$crate"); do if [ -d "crates/$d" ]; then needed+=("$d"); fi; done
-    if [ ${#needed[@]} -gt 0 ]; then rt check "${needed[@]}" >"$work/$crate.rt.log" || { tail -n 20 "$work/$crate.rt.log" >&2; exit 1; }; fi
+    if [ ${#needed[@]} -gt 0 ]; then prove "${needed[@]}"; fi
+    echo "native.sh: proving and building $crate" >&2
     rm -f "$work/module"
     if [ -f "$dir/src/main.rt" ]; then
         build "$crate" "$dir/src/main.rt" "$work/$crate.o"

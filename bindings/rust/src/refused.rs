@@ -1,5 +1,7 @@
-//! Why a call was refused, and what is wrong with a thread's doubles. A number that a later library answers becomes a variant and a line of `NUMBERS`;
-//! where it comes with a block or a section, the variant gets a field, for which the enum is not exhaustive.
+//! Why a call was refused, and what is wrong with a thread's doubles.
+//!
+//! A number that a later library answers becomes a variant, a line of `about` and one of `from_number`. A variant whose number comes with a
+//! section or a block has a field for it, and `from_number` then takes that too.
 use core::error::Error;
 use core::fmt;
 
@@ -27,32 +29,39 @@ pub enum Refused {
     Other(u32),
 }
 
-/// The numbers that have a name, each with its sentence.
-const NUMBERS: [(u32, Refused, &str); 8] = [
-    (1, Refused::NotFinite, "a sample is NaN or infinite"),
-    (2, Refused::TooLarge, "a sample's magnitude exceeds 1e290"),
-    (3, Refused::BadScale, "the scale is not a finite number above 0"),
-    (4, Refused::FarQuotient, "a sample over the scale exceeds 1e6 in magnitude"),
-    (5, Refused::NoWord, "no word decodes to the point"),
-    (7, Refused::BadSetting, "the setting of the shrinks is 0"),
-    (8, Refused::NoRoom, "a slice is too short"),
-    (9, Refused::NoPage, "the text is no page"),
-];
-
 impl Refused {
     /// The number of the refusal, as documents and other languages have it.
-    pub fn number(self) -> u32 {
+    pub const fn number(self) -> u32 {
+        self.about().0
+    }
+
+    /// The number and its sentence.
+    const fn about(self) -> (u32, &'static str) {
         match self {
-            Refused::Other(number) => number,
-            named => NUMBERS.iter().find(|(_, r, _)| *r == named).map_or(0, |(number, _, _)| *number),
+            Refused::NotFinite => (1, "a sample is NaN or infinite"),
+            Refused::TooLarge => (2, "a sample's magnitude exceeds 1e290"),
+            Refused::BadScale => (3, "the scale is not a finite number above 0"),
+            Refused::FarQuotient => (4, "a sample over the scale exceeds 1e6 in magnitude"),
+            Refused::NoWord => (5, "no word decodes to the point"),
+            Refused::BadSetting => (7, "the setting of the shrinks is 0"),
+            Refused::NoRoom => (8, "a slice is too short"),
+            Refused::NoPage => (9, "the text is no page"),
+            Refused::Other(number) => (number, "the library has a reason that this version of the crate does not know"),
         }
     }
 
-    fn from_number(number: u32) -> Refused {
-        NUMBERS
-            .iter()
-            .find(|(n, _, _)| *n == number)
-            .map_or(Refused::Other(number), |(_, r, _)| *r)
+    const fn from_number(number: u32) -> Refused {
+        match number {
+            1 => Refused::NotFinite,
+            2 => Refused::TooLarge,
+            3 => Refused::BadScale,
+            4 => Refused::FarQuotient,
+            5 => Refused::NoWord,
+            7 => Refused::BadSetting,
+            8 => Refused::NoRoom,
+            9 => Refused::NoPage,
+            other => Refused::Other(other),
+        }
     }
 
     /// The value where the number is 0, and otherwise the refusal.
@@ -67,10 +76,8 @@ impl Refused {
 
 impl fmt::Display for Refused {
     fn fmt(&self, f: &mut fmt::Formatter<'_>) -> fmt::Result {
-        match NUMBERS.iter().find(|(_, r, _)| r == self) {
-            Some((_, _, sentence)) => f.write_str(sentence),
-            None => write!(f, "refused with {}", self.number()),
-        }
+        let (number, sentence) = self.about();
+        write!(f, "{sentence} (refused with {number})")
     }
 }
 
