@@ -1,23 +1,27 @@
-/* Yultarvas from C: words, points and samples of motor current traces. These are the calls of the static library libyultarvas.a, every
- * function of which is proved against its contract. `bash tools/native.sh yultarvas` builds it for the machine that it stands on.
+/* Yultarvas from C: words, points and samples of motor current traces. These are the calls of the static
+ * library libyultarvas.a, every function of which is proved against its contract. `bash tools/native.sh
+ * yultarvas` builds it for the machine that it stands on.
  *
- * Answers. Each call answers YULTARVAS_OK or the number of the refusal, and on a refusal writes nothing. Where more than one number would
- * fit, the first of those that stand behind 'Refused:' is answered.
+ * Answers. Each call answers YULTARVAS_OK or the number of the refusal, and on a refusal writes nothing.
+ * Where more than one number would fit, the first of those that stand behind 'Refused:' is answered.
  *
- * Slices. A slice is a pointer and its length in elements, in this order; the length is at most PTRDIFF_MAX bytes. A block of 24 stands at a
- * slice's start; of a longer slice the rest is neither read nor written. A slice of length 0 is never looked at, so (NULL, 0) is an empty
- * slice. Every other pointer is not null and is aligned for its type, and what a call writes overlaps nothing else that the call is lent.
- * The library cannot check that, and no proof covers it.
+ * Slices. A slice is a pointer and its length in elements, in this order; the length is at most PTRDIFF_MAX
+ * bytes. A block of 24 stands at a slice's start; of a longer slice the rest is neither read nor written. A
+ * slice of length 0 is never looked at, so (NULL, 0) is an empty slice. Every other pointer is not null and
+ * is aligned for its type, and what a call writes overlaps nothing else that the call is lent. The library
+ * cannot check that, and no proof covers it.
  *
- * Threads. No call keeps anything between calls and none writes to memory but what it is lent and its own stack, so any number of threads may
- * call at once, as long as they do not lend the same memory for writing. No call allocates, locks, or calls anything of the host.
+ * Threads. No call keeps anything between calls and none writes to memory but what it is lent and its own
+ * stack, so any number of threads may call at once, as long as they do not lend the same memory for writing.
+ * No call allocates or locks; of the host it uses memcpy, memmove and memset alone.
  *
- * Stack. yultarvas_encode, yultarvas_encode_with and yultarvas_encode_at_scale take up to 145 KB of stack (144,704 bytes on aarch64, 136,904 on
- * x86-64), the other calls up to 21 KB. No theorem bounds the stack: tools/stack.sh measures it. Have YULTARVAS_STACK bytes left.
+ * Stack. yultarvas_encode, yultarvas_encode_with and yultarvas_encode_at_scale take up to 145 KB of stack
+ * (144,704 bytes on aarch64, 136,904 on x86-64), the other calls up to 21 KB. No theorem bounds the stack:
+ * tools/stack.sh measures it. Have YULTARVAS_STACK bytes left.
  *
- * Doubles. The contracts are over IEEE 754 doubles, rounded to nearest with ties to even, subnormal numbers kept. That is how a thread starts; a
- * host that has set another rounding mode or flush-to-zero (as a program linked with -ffast-math does) gets other answers with no refusal.
- * yultarvas_environment_now tells. */
+ * Doubles. The contracts are over IEEE 754 doubles, rounded to nearest with ties to even, subnormal numbers
+ * kept. That is how a thread starts; a host that has set another rounding mode or flush-to-zero (as a program
+ * linked with -ffast-math does) gets other answers with no refusal. yultarvas_environment_now tells. */
 #ifndef YULTARVAS_H
 #define YULTARVAS_H
 
@@ -39,7 +43,7 @@ extern "C" {
 #define YULTARVAS_PAGE_BLOCKS 64
 #define YULTARVAS_PAGE_COUNTS 1536
 
-/* Bytes of stack that a thread should have left for any one call: twice what was measured at most, and more. */
+/* Bytes of stack that a thread should have left for any one call: more than twice what was measured. */
 #define YULTARVAS_STACK 327680
 
 /* What a call answers. A later version may have further numbers, so let a switch have a default. */
@@ -72,47 +76,55 @@ uint32_t yultarvas_encode_point(const int32_t *point, size_t point_len, uint64_t
 
 /* ---- samples to codes: the word, its point and the score */
 
-/* At the scale that the samples give: what a recorder calls. Samples that are all zero have word 0 and the score minus infinity.
- * Refused: 8, 1, 2. */
-uint32_t yultarvas_encode(const double *samples, size_t samples_len, uint64_t *word, int32_t *point, size_t point_len, double *score);
+/* At the scale that the samples give: what a recorder calls. Samples that are all zero have word 0 and the
+ * score minus infinity. Refused: 8, 1, 2. */
+uint32_t yultarvas_encode(const double *samples, size_t samples_len, uint64_t *word, int32_t *point,
+                          size_t point_len, double *score);
 
-/* The same at a setting of the shrinks: 1 is the quickest, 8 and above the most thorough, which yultarvas_encode uses. Refused: 8, 7, 1, 2. */
-uint32_t yultarvas_encode_with(const double *samples, size_t samples_len, uint32_t setting, uint64_t *word, int32_t *point,
-                               size_t point_len, double *score);
+/* The same at a setting, the number of shrinks that the search tries; all from 8 up are the same, and
+ * yultarvas_encode uses 8. Refused: 8, 7, 1, 2. */
+uint32_t yultarvas_encode_with(const double *samples, size_t samples_len, uint32_t setting, uint64_t *word,
+                               int32_t *point, size_t point_len, double *score);
 
-/* At a scale and a setting of the shrinks. Refused: 8, 7, 3, 1, 2, 4. */
-uint32_t yultarvas_encode_at_scale(const double *samples, size_t samples_len, double scale, uint32_t setting, uint64_t *word,
-                                   int32_t *point, size_t point_len, double *score);
+/* At a scale and a setting. Refused: 8, 7, 3, 1, 2, 4. */
+uint32_t yultarvas_encode_at_scale(const double *samples, size_t samples_len, double scale, uint32_t setting,
+                                   uint64_t *word, int32_t *point, size_t point_len, double *score);
 
 /* ---- a scale and a score by themselves */
 
-/* The largest magnitude of the samples into largest, and the lower of the two scales that yultarvas_encode tries into scale; +0.0 in each where
- * all samples are zero. Refused: 8, 1, 2. */
+/* The largest magnitude of the samples into largest, and the lower of the two scales that yultarvas_encode
+ * tries into scale; +0.0 in each where all samples are zero. Refused: 8, 1, 2. */
 uint32_t yultarvas_lower_scale(const double *samples, size_t samples_len, double *largest, double *scale);
 
-/* The score of samples at a point, samples times point over the root of point times point, into score; minus infinity at the origin.
- * Refused: 8, 1, 2. */
-uint32_t yultarvas_t_of(const double *samples, size_t samples_len, const int32_t *point, size_t point_len, double *score);
+/* The score of samples at a point, samples times point over the root of point times point, into score; minus
+ * infinity at the origin. Refused: 8, 1, 2. */
+uint32_t yultarvas_t_of(const double *samples, size_t samples_len, const int32_t *point, size_t point_len,
+                        double *score);
 
 /* ---- pages */
 
-/* The counts of a page, 24 per block, into counts, and how many blocks it has into blocks. YULTARVAS_PAGE_COUNTS places hold any page.
- * Refused: 9, 8. */
-uint32_t yultarvas_read_page(const uint8_t *text, size_t text_len, int32_t *counts, size_t counts_len, size_t *blocks);
+/* The counts of a page, 24 per block, into counts, and how many blocks it has into blocks.
+ * YULTARVAS_PAGE_COUNTS places hold any page. Refused: 9, 8. */
+uint32_t yultarvas_read_page(const uint8_t *text, size_t text_len, int32_t *counts, size_t counts_len,
+                             size_t *blocks);
 
-/* The num of a page into num, its words into words, and how many there are into count. YULTARVAS_PAGE_BLOCKS places hold any page.
- * Refused: 9, 8. */
-uint32_t yultarvas_parse_page(const uint8_t *text, size_t text_len, uint32_t *num, uint64_t *words, size_t words_len, size_t *count);
+/* The num of a page into num, its words into words, and how many there are into count. YULTARVAS_PAGE_BLOCKS
+ * places hold any page. Refused: 9, 8. */
+uint32_t yultarvas_parse_page(const uint8_t *text, size_t text_len, uint32_t *num, uint64_t *words,
+                              size_t words_len, size_t *count);
 
 /* ---- the environment */
 
-/* Three sums of doubles, at one = 1.0 and least = 2^-1074, the least double above 0. The proof is over doubles of which the answer is always
- * YULTARVAS_ENVIRONMENT_OK; on a thread that rounds otherwise, or flushes, the same sums come out otherwise. The operands are arguments so that
- * no compiler works the sums out beforehand. */
+/* Three sums of doubles, at one = 1.0 and least = 2^-1074, the least double above 0. The proof is over
+ * doubles of which the answer is always YULTARVAS_ENVIRONMENT_OK; on a thread that rounds otherwise, or
+ * flushes, the same sums come out otherwise. The operands are arguments so that no compiler works the sums
+ * out beforehand. */
 uint32_t yultarvas_environment(double one, double least);
 
 /* How the calling thread stands: to be asked once at start-up, and after code that may have changed it. */
-static inline uint32_t yultarvas_environment_now(void) { return yultarvas_environment(1.0, 4.9406564584124654e-324); }
+static inline uint32_t yultarvas_environment_now(void) {
+    return yultarvas_environment(1.0, 4.9406564584124654e-324);
+}
 
 #ifdef __cplusplus
 }

@@ -1,5 +1,6 @@
-//! Links libyultarvas.a from the folder that YULTARVAS_LIB names; where it is not set, from target/native of this repository, where
-//! `bash tools/native.sh yultarvas` writes it. Where there is none, or it is for another machine, one sentence says so and nothing is built.
+//! Links libyultarvas.a from the folder that YULTARVAS_LIB names; where it is not set, from target/native of
+//! this repository, where `bash tools/native.sh yultarvas` writes it. Where there is none, or it is for
+//! another machine, one sentence says so and nothing is built.
 use std::path::{Path, PathBuf};
 use std::{env, fs, process};
 
@@ -34,7 +35,12 @@ pub fn trouble(folder: &Path, wanted: &str) -> Option<String> {
     };
     let known = MACHINES.iter().find(|(number, _)| *number == machine);
     let found = known.map_or("an unknown machine", |(_, name)| *name);
-    (found != wanted).then(|| format!("{} is for {found}, and this build is for {wanted}", library.display()))
+    (found != wanted).then(|| {
+        format!(
+            "{} is for {found}, and this build is for {wanted}",
+            library.display()
+        )
+    })
 }
 
 fn main() {
@@ -44,7 +50,10 @@ fn main() {
         Some(folder) => PathBuf::from(folder),
         None => PathBuf::from(variable("CARGO_MANIFEST_DIR")).join("../../target/native"),
     };
-    println!("cargo:rerun-if-changed={}", folder.join("libyultarvas.a").display());
+    println!(
+        "cargo:rerun-if-changed={}",
+        folder.join("libyultarvas.a").display()
+    );
     if let Some(why) = trouble(&folder, &variable("CARGO_CFG_TARGET_ARCH").to_string_lossy()) {
         eprintln!("yultarvas: {why}");
         process::exit(1);

@@ -1,15 +1,17 @@
-//! Words, points and samples of motor current traces: safe calls of the static library `libyultarvas.a`, every function of which is proved
-//! against its contract.
+//! Words, points and samples of motor current traces: safe calls of the static library `libyultarvas.a`,
+//! every function of which is proved against its contract.
 //!
-//! A block is [`BLOCK`] samples, and has one 48-bit word, which stands for a point of the Leech lattice. A trace page holds up to
-//! [`PAGE_BLOCKS`] words. A call that is refused answers a [`Refused`], whose [`Refused::number`] is the one that documents and other languages
-//! use.
+//! A block is [`BLOCK`] samples, and has one 48-bit word, which stands for a point of the Leech lattice. A
+//! trace page holds up to [`PAGE_BLOCKS`] words. A call that is refused answers a [`Refused`], whose
+//! [`Refused::number`] is the one that documents and other languages use.
 //!
-//! **Doubles.** The contracts are over IEEE 754 doubles, rounded to nearest with ties to even, subnormal numbers kept, as a thread starts. A
-//! program that calls C code which sets another rounding mode or flush-to-zero gets other answers with no refusal; [`environment`] tells.
+//! **Doubles.** The contracts are over IEEE 754 doubles, rounded to nearest with ties to even, subnormal
+//! numbers kept, as a thread starts. A program that calls C code which sets another rounding mode or
+//! flush-to-zero gets other answers with no refusal; [`environment`] tells.
 //!
-//! **Stack.** [`encode`], [`encode_with`] and [`encode_at_scale`] take up to 145 KB of stack (144,704 bytes on aarch64, 136,904 on x86-64: measured
-//! by tools/stack.sh, no theorem bounds it): more than some threads have. Have [`STACK`] bytes left.
+//! **Stack.** [`encode`], [`encode_with`] and [`encode_at_scale`] take up to 145 KB of stack (144,704 bytes
+//! on aarch64, 136,904 on x86-64: measured by tools/stack.sh, no theorem bounds it): more than some threads
+//! have. Have [`STACK`] bytes left.
 //!
 //! **Threads.** No call keeps anything, allocates or locks: any number of threads may call at once.
 //!
@@ -46,7 +48,7 @@ pub const PAGE_BLOCKS: usize = 64;
 /// The most counts that a page has.
 pub const PAGE_COUNTS: usize = PAGE_BLOCKS * BLOCK;
 
-/// Bytes of stack that a thread should have left for any one call: twice what was measured at most, and more.
+/// Bytes of stack that a thread should have left for any one call: more than twice what was measured.
 pub const STACK: usize = 320 * 1024;
 
 /// A block's code. A later version may add fields.
@@ -97,8 +99,8 @@ const EMPTY: Code = Code {
     score: 0.0,
 };
 
-// Each pointer below is that of a live reference or slice, with its own length, and what is written is borrowed mutably: this is all that
-// the library asks of its callers, since no contract has a condition.
+// Each pointer below is that of a live reference or slice, with its own length, and what is written is
+// borrowed mutably: this is all that the library asks of its callers, since no contract has a condition.
 
 /// The point of a word, in natural order. Bits 47 and up are ignored.
 pub fn decode(word: u64) -> [i32; BLOCK] {
@@ -115,8 +117,8 @@ pub fn encode_point(point: &[i32; BLOCK]) -> Result<u64, Refused> {
     Refused::unless(number, word)
 }
 
-/// The code of samples at the scale that they give: what a recorder calls. Samples that are all zero have word 0 and the score minus infinity.
-/// Refused with [`Refused::NotFinite`], else [`Refused::TooLarge`].
+/// The code of samples at the scale that they give: what a recorder calls. Samples that are all zero have
+/// word 0 and the score minus infinity. Refused with [`Refused::NotFinite`], else [`Refused::TooLarge`].
 pub fn encode(samples: &[f64; BLOCK]) -> Result<Code, Refused> {
     let mut c = EMPTY;
     let (x, y) = (samples.as_ptr(), c.point.as_mut_ptr());
@@ -124,43 +126,62 @@ pub fn encode(samples: &[f64; BLOCK]) -> Result<Code, Refused> {
     Refused::unless(number, c)
 }
 
-/// The code of samples at the scale that they give and at a setting of the shrinks: 1 is the quickest, 8 and above the most thorough, which
-/// [`encode`] uses. Refused with [`Refused::BadSetting`], else as [`encode`].
+/// The code of samples at the scale that they give and at a setting, the number of shrinks that the search
+/// tries; all from 8 up are the same, and [`encode`] uses 8. Refused with [`Refused::BadSetting`], else as
+/// [`encode`].
 pub fn encode_with(samples: &[f64; BLOCK], setting: u32) -> Result<Code, Refused> {
     let mut c = EMPTY;
     let (x, y) = (samples.as_ptr(), c.point.as_mut_ptr());
-    let number = unsafe { raw::yultarvas_encode_with(x, BLOCK, setting, &mut c.word, y, BLOCK, &mut c.score) };
+    let number =
+        unsafe { raw::yultarvas_encode_with(x, BLOCK, setting, &mut c.word, y, BLOCK, &mut c.score) };
     Refused::unless(number, c)
 }
 
-/// The code of samples at a scale and a setting of the shrinks. Refused with the first that fits of [`Refused::BadSetting`],
-/// [`Refused::BadScale`], [`Refused::NotFinite`], [`Refused::TooLarge`], [`Refused::FarQuotient`].
+/// The code of samples at a scale and a setting. Refused with the first that fits of
+/// [`Refused::BadSetting`], [`Refused::BadScale`], [`Refused::NotFinite`], [`Refused::TooLarge`],
+/// [`Refused::FarQuotient`].
 pub fn encode_at_scale(samples: &[f64; BLOCK], scale: f64, setting: u32) -> Result<Code, Refused> {
     let mut c = EMPTY;
     let (x, y) = (samples.as_ptr(), c.point.as_mut_ptr());
-    let number = unsafe { raw::yultarvas_encode_at_scale(x, BLOCK, scale, setting, &mut c.word, y, BLOCK, &mut c.score) };
+    let number = unsafe {
+        raw::yultarvas_encode_at_scale(x, BLOCK, scale, setting, &mut c.word, y, BLOCK, &mut c.score)
+    };
     Refused::unless(number, c)
 }
 
-/// The largest magnitude of samples, and the lower of the two scales that [`encode`] tries. Refused as [`encode`].
+/// The largest magnitude of samples, and the lower of the two scales that [`encode`] tries. Refused as
+/// [`encode`].
 pub fn lower_scale(samples: &[f64; BLOCK]) -> Result<Scales, Refused> {
-    let mut s = Scales { largest: 0.0, scale: 0.0 };
+    let mut s = Scales {
+        largest: 0.0,
+        scale: 0.0,
+    };
     let number = unsafe { raw::yultarvas_lower_scale(samples.as_ptr(), BLOCK, &mut s.largest, &mut s.scale) };
     Refused::unless(number, s)
 }
 
-/// The score of samples at a point: samples times point over the root of point times point, minus infinity at the origin. Refused as [`encode`].
+/// The score of samples at a point: samples times point over the root of point times point, minus infinity at
+/// the origin. Refused as [`encode`].
 pub fn t_of(samples: &[f64; BLOCK], point: &[i32; BLOCK]) -> Result<f64, Refused> {
     let mut score = 0.0;
     let number = unsafe { raw::yultarvas_t_of(samples.as_ptr(), BLOCK, point.as_ptr(), BLOCK, &mut score) };
     Refused::unless(number, score)
 }
 
-/// The counts of a page into `counts`, [`BLOCK`] per block, and how many blocks it has. [`PAGE_COUNTS`] places hold any page. Refused with
-/// [`Refused::NoPage`], else [`Refused::NoRoom`], and then `counts` is as it was.
+/// The counts of a page into `counts`, [`BLOCK`] per block, and how many blocks it has. [`PAGE_COUNTS`]
+/// places hold any page. Refused with [`Refused::NoPage`], else [`Refused::NoRoom`], and then `counts` is as
+/// it was.
 pub fn read_page(text: &[u8], counts: &mut [i32]) -> Result<usize, Refused> {
     let mut blocks = 0;
-    let number = unsafe { raw::yultarvas_read_page(text.as_ptr(), text.len(), counts.as_mut_ptr(), counts.len(), &mut blocks) };
+    let number = unsafe {
+        raw::yultarvas_read_page(
+            text.as_ptr(),
+            text.len(),
+            counts.as_mut_ptr(),
+            counts.len(),
+            &mut blocks,
+        )
+    };
     Refused::unless(number, blocks)
 }
 
@@ -172,12 +193,21 @@ pub fn parse_page(text: &[u8]) -> Result<Page, Refused> {
         words: [0; PAGE_BLOCKS],
     };
     let words = p.words.as_mut_ptr();
-    let number = unsafe { raw::yultarvas_parse_page(text.as_ptr(), text.len(), &mut p.num, words, PAGE_BLOCKS, &mut p.count) };
+    let number = unsafe {
+        raw::yultarvas_parse_page(
+            text.as_ptr(),
+            text.len(),
+            &mut p.num,
+            words,
+            PAGE_BLOCKS,
+            &mut p.count,
+        )
+    };
     Refused::unless(number, p)
 }
 
-/// Whether sums of doubles come out on this thread as the contracts say: to be asked once at start-up, and after foreign code that may have
-/// changed it.
+/// Whether sums of doubles come out on this thread as the contracts say: to be asked once at start-up, and
+/// after foreign code that may have changed it.
 pub fn environment() -> Result<(), Environment> {
     let (one, least) = (black_box(1.0), black_box(f64::from_bits(1)));
     Environment::unless(unsafe { raw::yultarvas_environment(one, least) })

@@ -1,7 +1,8 @@
 //! Why a call was refused, and what is wrong with a thread's doubles.
 //!
-//! A number that a later library answers becomes a variant, a line of `about` and one of `from_number`. A variant whose number comes with a
-//! section or a block has a field for it, and `from_number` then takes that too.
+//! A number that a later library answers becomes a variant, a line of `about` and one of `from_number`. A
+//! variant whose number comes with a section or a block has a field for it, and `from_number` then takes that
+//! too.
 use core::error::Error;
 use core::fmt;
 
@@ -46,7 +47,10 @@ impl Refused {
             Refused::BadSetting => (7, "the setting of the shrinks is 0"),
             Refused::NoRoom => (8, "a slice is too short"),
             Refused::NoPage => (9, "the text is no page"),
-            Refused::Other(number) => (number, "the library has a reason that this version of the crate does not know"),
+            Refused::Other(number) => (
+                number,
+                "the library has a reason that this version of the crate does not know",
+            ),
         }
     }
 
@@ -106,7 +110,9 @@ impl Environment {
 impl fmt::Display for Environment {
     fn fmt(&self, f: &mut fmt::Formatter<'_>) -> fmt::Result {
         f.write_str(match self {
-            Environment::OtherRounding => "this thread does not round sums of doubles to nearest, ties to even",
+            Environment::OtherRounding => {
+                "this thread does not round sums of doubles to nearest, ties to even"
+            }
             Environment::NoSubnormals => "this thread takes subnormal numbers for 0",
         })
     }

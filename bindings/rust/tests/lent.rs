@@ -1,5 +1,9 @@
-//! The order of refusals; slices that are too short or longer than a block, and what a call leaves in what it is lent.
-use yultarvas::{decode, encode, encode_at_scale, encode_point, encode_with, lower_scale, parse_page, raw, read_page, t_of, Refused};
+//! The order of refusals; slices that are too short or longer than a block, and what a call leaves in what it
+//! is lent.
+use yultarvas::{
+    decode, encode, encode_at_scale, encode_point, encode_with, lower_scale, parse_page, raw, read_page,
+    t_of, Refused,
+};
 
 const PAGE: &[u8] = b"format=tetra-page\nnum=128\ncount=1\nword=000000000001\n";
 
@@ -19,7 +23,10 @@ fn order_of_refusals() {
     assert_eq!(encode(&x), Err(Refused::TooLarge));
     assert_eq!(lower_scale(&x), Err(Refused::TooLarge));
     assert_eq!(t_of(&x, &[0; 24]), Err(Refused::TooLarge));
-    assert_eq!(encode_at_scale(&[1000001.0; 24], 1.0, 8), Err(Refused::FarQuotient));
+    assert_eq!(
+        encode_at_scale(&[1000001.0; 24], 1.0, 8),
+        Err(Refused::FarQuotient)
+    );
     assert_eq!(encode_point(&[1; 24]), Err(Refused::NoWord));
     assert_eq!(read_page(PAGE, &mut [7; 23]), Err(Refused::NoRoom));
     assert_eq!(read_page(b"", &mut []), Err(Refused::NoPage));
@@ -42,7 +49,10 @@ fn numbers() {
     for (number, refused) in all {
         assert_eq!(refused.number(), number);
     }
-    assert_eq!(Refused::NoWord.to_string(), "no word decodes to the point (refused with 5)");
+    assert_eq!(
+        Refused::NoWord.to_string(),
+        "no word decodes to the point (refused with 5)"
+    );
 }
 
 #[test]
@@ -68,19 +78,34 @@ fn longer_slices() {
     assert_eq!(y[..24], decode(1));
     assert_eq!(y[24..], [9; 6]);
     let mut word = 0;
-    assert_eq!(unsafe { raw::yultarvas_encode_point(y.as_ptr(), y.len(), &mut word) }, 0);
+    assert_eq!(
+        unsafe { raw::yultarvas_encode_point(y.as_ptr(), y.len(), &mut word) },
+        0
+    );
     assert_eq!(word, 1);
     let mut x = [0.0; 30];
     (x[0], x[1], x[25]) = (4.1, 3.9, f64::NAN);
     let (mut largest, mut scale) = (0.0, 0.0);
-    assert_eq!(unsafe { raw::yultarvas_lower_scale(x.as_ptr(), x.len(), &mut largest, &mut scale) }, 0);
+    assert_eq!(
+        unsafe { raw::yultarvas_lower_scale(x.as_ptr(), x.len(), &mut largest, &mut scale) },
+        0
+    );
     assert_eq!(largest, 4.1);
     let mut counts = [9; 30];
     assert_eq!(read_page(PAGE, &mut counts), Ok(1));
     assert_eq!((counts[0], counts[23]), (1, -2));
     assert_eq!(counts[24..], [9; 6]);
     let (mut num, mut words, mut count) = (0, [9; 3], 0);
-    let got = unsafe { raw::yultarvas_parse_page(PAGE.as_ptr(), PAGE.len(), &mut num, words.as_mut_ptr(), words.len(), &mut count) };
+    let got = unsafe {
+        raw::yultarvas_parse_page(
+            PAGE.as_ptr(),
+            PAGE.len(),
+            &mut num,
+            words.as_mut_ptr(),
+            words.len(),
+            &mut count,
+        )
+    };
     assert_eq!((got, num, words, count), (0, 128, [1, 9, 9], 1));
 }
 
@@ -96,11 +121,26 @@ fn untouched() {
         assert_eq!(raw::yultarvas_decode(1, at, 23), 8);
         assert_eq!(raw::yultarvas_encode_point([1; 24].as_ptr(), 24, &mut word), 5);
         assert_eq!(raw::yultarvas_encode_point([0; 23].as_ptr(), 23, &mut word), 8);
-        assert_eq!(raw::yultarvas_encode_at_scale(x, 24, 1.0, 8, &mut word, at, 24, &mut score), 1);
-        assert_eq!(raw::yultarvas_encode_at_scale(x, 24, 0.0, 0, &mut word, at, 23, &mut score), 8);
-        assert_eq!(raw::yultarvas_encode_at_scale(x, 23, 0.0, 0, &mut word, at, 24, &mut score), 8);
-        assert_eq!(raw::yultarvas_encode_with(x, 24, 0, &mut word, at, 24, &mut score), 7);
-        assert_eq!(raw::yultarvas_encode_with(x, 23, 0, &mut word, at, 24, &mut score), 8);
+        assert_eq!(
+            raw::yultarvas_encode_at_scale(x, 24, 1.0, 8, &mut word, at, 24, &mut score),
+            1
+        );
+        assert_eq!(
+            raw::yultarvas_encode_at_scale(x, 24, 0.0, 0, &mut word, at, 23, &mut score),
+            8
+        );
+        assert_eq!(
+            raw::yultarvas_encode_at_scale(x, 23, 0.0, 0, &mut word, at, 24, &mut score),
+            8
+        );
+        assert_eq!(
+            raw::yultarvas_encode_with(x, 24, 0, &mut word, at, 24, &mut score),
+            7
+        );
+        assert_eq!(
+            raw::yultarvas_encode_with(x, 23, 0, &mut word, at, 24, &mut score),
+            8
+        );
         assert_eq!(raw::yultarvas_encode(x, 24, &mut word, at, 24, &mut score), 1);
         assert_eq!(raw::yultarvas_encode(x, 24, &mut word, at, 23, &mut score), 8);
         assert_eq!(raw::yultarvas_lower_scale(x, 24, &mut score, &mut scale), 1);
@@ -108,11 +148,26 @@ fn untouched() {
         assert_eq!(raw::yultarvas_t_of(x, 24, [1; 24].as_ptr(), 24, &mut score), 1);
         assert_eq!(raw::yultarvas_t_of(x, 24, [1; 24].as_ptr(), 23, &mut score), 8);
         assert_eq!(raw::yultarvas_t_of(x, 23, [1; 24].as_ptr(), 24, &mut score), 8);
-        assert_eq!(raw::yultarvas_read_page(PAGE.as_ptr(), PAGE.len() - 1, at, 24, &mut count), 9);
-        assert_eq!(raw::yultarvas_read_page(PAGE.as_ptr(), PAGE.len(), at, 23, &mut count), 8);
+        assert_eq!(
+            raw::yultarvas_read_page(PAGE.as_ptr(), PAGE.len() - 1, at, 24, &mut count),
+            9
+        );
+        assert_eq!(
+            raw::yultarvas_read_page(PAGE.as_ptr(), PAGE.len(), at, 23, &mut count),
+            8
+        );
         let w = words.as_mut_ptr();
-        assert_eq!(raw::yultarvas_parse_page(PAGE.as_ptr(), PAGE.len() - 1, &mut num, w, 2, &mut count), 9);
-        assert_eq!(raw::yultarvas_parse_page(two.as_ptr(), two.len(), &mut num, w, 2, &mut count), 8);
+        assert_eq!(
+            raw::yultarvas_parse_page(PAGE.as_ptr(), PAGE.len() - 1, &mut num, w, 2, &mut count),
+            9
+        );
+        assert_eq!(
+            raw::yultarvas_parse_page(two.as_ptr(), two.len(), &mut num, w, 2, &mut count),
+            8
+        );
     }
-    assert_eq!((word, y, score, scale, count, num, words), (77, [9; 24], 5.5, 3.5, 66, 55, [44; 2]));
+    assert_eq!(
+        (word, y, score, scale, count, num, words),
+        (77, [9; 24], 5.5, 3.5, 66, 55, [44; 2])
+    );
 }

@@ -33,9 +33,18 @@ fn one_sentence() {
     turned[elf + 18..elf + 20].copy_from_slice(&number.to_le_bytes());
     let cases = [
         (folder("none", None), "there is no "),
-        (folder("text", Some(b"no archive")), "is no static library for Linux"),
-        (folder("empty", Some(b"!<arch>\n")), "is no static library for Linux"),
-        (folder("turned", Some(&turned)), &format!("is for {other}, and this build is for {here}")),
+        (
+            folder("text", Some(b"no archive")),
+            "is no static library for Linux",
+        ),
+        (
+            folder("empty", Some(b"!<arch>\n")),
+            "is no static library for Linux",
+        ),
+        (
+            folder("turned", Some(&turned)),
+            &format!("is for {other}, and this build is for {here}"),
+        ),
     ];
     for (folder, sentence) in cases {
         let said = build::trouble(&folder, here).unwrap();

@@ -1,6 +1,9 @@
 //! The requests and answers that the gate runs the programs `ask` and `page_runs` on, put to the library.
 use std::fs;
-use yultarvas::{decode, encode_at_scale, encode_point, encode_with, lower_scale, parse_page, read_page, t_of, Code, Refused, PAGE_COUNTS};
+use yultarvas::{
+    decode, encode_at_scale, encode_point, encode_with, lower_scale, parse_page, read_page, t_of, Code,
+    Refused, PAGE_COUNTS,
+};
 
 fn file(path: &str) -> String {
     let full = format!("{}/../../crates/{path}", env!("CARGO_MANIFEST_DIR"));
@@ -64,7 +67,12 @@ fn bits(t: f64) -> u64 {
 
 fn code(c: Result<Code, Refused>) -> String {
     c.map_or_else(refused, |c| {
-        format!("word={:012x} score={:016x} point={}", c.word, bits(c.score), listed(&c.point))
+        format!(
+            "word={:012x} score={:016x} point={}",
+            c.word,
+            bits(c.score),
+            listed(&c.point)
+        )
     })
 }
 
@@ -82,7 +90,9 @@ fn answer(line: &str) -> Option<String> {
     let rest = &words[1..];
     match (words[0], rest.len()) {
         ("decode", 1) => hex(rest[0]).map(|w| format!("point={}", listed(&decode(w)))),
-        ("point", 24) => point(rest).map(|y| encode_point(&y).map_or_else(refused, |w| format!("word={w:012x}"))),
+        ("point", 24) => {
+            point(rest).map(|y| encode_point(&y).map_or_else(refused, |w| format!("word={w:012x}")))
+        }
         ("scale", 26) => {
             let (n, s, x) = (digits(rest[0])?, hex(rest[1])?, samples(&rest[2..])?);
             Some(code(encode_at_scale(&x, f64::from_bits(s), setting(n))))
@@ -93,7 +103,9 @@ fn answer(line: &str) -> Option<String> {
         }
         ("lower", 24) => {
             let scales = lower_scale(&samples(rest)?);
-            Some(scales.map_or_else(refused, |s| format!("max={:016x} scale={:016x}", bits(s.largest), bits(s.scale))))
+            Some(scales.map_or_else(refused, |s| {
+                format!("max={:016x} scale={:016x}", bits(s.largest), bits(s.scale))
+            }))
         }
         ("score", 48) => {
             let (x, y) = (samples(&rest[..24])?, point(&rest[24..])?);
@@ -154,7 +166,11 @@ fn words_of_pages() {
         let page = parse_page(text.as_bytes());
         assert_eq!(counts.err(), page.err());
         let Ok(page) = page else { continue };
-        let mut again = format!("format=tetra-page\nnum={}\ncount={}\n", page.num(), page.words().len());
+        let mut again = format!(
+            "format=tetra-page\nnum={}\ncount={}\n",
+            page.num(),
+            page.words().len()
+        );
         for word in page.words() {
             again += &format!("word={word:012x}\n");
         }

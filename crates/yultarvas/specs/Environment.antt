@@ -1,5 +1,6 @@
--- What a host asks before it relies on the doubles: two sums for the rounding, one for subnormal numbers. Definitions, and that over the doubles
--- of the contracts the answer is the good one. On a thread that rounds otherwise, or flushes, the same sums come out otherwise.
+-- What a host asks before it relies on the doubles: two sums for the rounding, one for subnormal numbers.
+-- Definitions, and that over the doubles of the contracts the answer is the good one. On a thread that rounds
+-- otherwise, or flushes, the same sums come out otherwise.
 use mathlib.Core.Path.{_≡_, refl}
 use mathlib.Core.Bool.{Bool, false, cond, _&&_}
 use Prim.Native.Nat.{ℕ}
@@ -7,7 +8,8 @@ use lib.IntN.{pos, negsuc}
 use lib.Ieee.{Float, fin, binary64, add, lt, eq}
 use Rattle.float.specs.Value.{zero64, one64}
 
--- ---- the operands: 2 ^ -53 and 3 * 2 ^ -53, of which each is the middle of two doubles above 1; and 1 + 2 ^ -51
+-- ---- the operands
+-- 1 + 2 ^ -53 and 1 + 3 * 2 ^ -53 each lie in the middle of two doubles; of these 1 and 1 + 2 ^ -51 are even
 abbrev pub halfStep64 : Float
 halfStep64 = fin false 1 (negsuc 52)
 

@@ -1,6 +1,7 @@
-// The calls for programs in other languages: include/yultarvas.h declares them for C, bindings/rust for Rust. A slice is a pointer and a
-// length, in this order; a cell is a pointer. Each call answers a number: 0, or that of the refusal, and then nothing that was lent is written.
-// A block stands at a slice's start. 8 says that a slice is too short for it, and stands before all other numbers; of a page after 9.
+// The calls for programs in other languages: include/yultarvas.h declares them for C, bindings/rust for Rust.
+// A slice is a pointer and a length, in this order; a cell is a pointer. Each call answers a number: 0, or
+// that of the refusal, and then nothing that was lent is written. A block stands at a slice's start. 8 says
+// that a slice is too short for it, and stands before all other numbers; of a page after 9.
 mod environment;
 mod slices;
 
@@ -76,7 +77,8 @@ pub extern "C" fn yultarvas_encode_at_scale(
     slices::put_code(c, word, point, score)
 }
 
-// The code of the first 24 samples at the scale that they give, and at a setting of the shrinks. Refused with 7, 1, 2.
+// The code of the first 24 samples at the scale that they give, and at a setting of the shrinks. Refused with
+// 7, 1, 2.
 #[no_mangle]
 pub extern "C" fn yultarvas_encode_with(
     samples: &[f64],
@@ -125,8 +127,8 @@ pub extern "C" fn yultarvas_encode(
 
 // ---- a scale and a score by themselves
 
-// The largest magnitude of the first 24 samples, and the lower of the two scales that `yultarvas_encode` tries; both are +0.0 where all
-// samples are zero. Refused with 1, 2.
+// The largest magnitude of the first 24 samples, and the lower of the two scales that `yultarvas_encode`
+// tries; both are +0.0 where all samples are zero. Refused with 1, 2.
 #[no_mangle]
 pub extern "C" fn yultarvas_lower_scale(samples: &[f64], largest: &mut f64, scale: &mut f64) -> u32
     ensures { λ r. ⌜ r ≡ scalesNumber (now (samples .entry)) ⌝ }
@@ -169,8 +171,8 @@ pub extern "C" fn yultarvas_t_of(samples: &[f64], point: &[i32], score: &mut f64
 
 // ---- pages
 
-// The counts of a page, 24 per block, from the start of `counts` on, and how many blocks it has. Refused with 9 where the text is no page, then
-// with 8 where `counts` has fewer places than the page has counts.
+// The counts of a page, 24 per block, from the start of `counts` on, and how many blocks it has. Refused with
+// 9 where the text is no page, then with 8 where `counts` has fewer places than the page has counts.
 #[no_mangle]
 pub extern "C" fn yultarvas_read_page(text: &[u8], counts: &mut [i32], blocks: &mut usize) -> u32
     ensures { λ r. ⌜ r ≡ pageNumber (now (text .entry)) (now (counts .entry)) ⌝ }
@@ -186,8 +188,8 @@ pub extern "C" fn yultarvas_read_page(text: &[u8], counts: &mut [i32], blocks: &
     0
 }
 
-// The num of a page, its words from the start of `words` on, and how many there are. Refused with 9 where the text is no page, then with 8
-// where `words` has fewer places than the page has words.
+// The num of a page, its words from the start of `words` on, and how many there are. Refused with 9 where the
+// text is no page, then with 8 where `words` has fewer places than the page has words.
 #[no_mangle]
 pub extern "C" fn yultarvas_parse_page(
     text: &[u8],
@@ -218,10 +220,11 @@ pub extern "C" fn yultarvas_parse_page(
 
 // ---- the environment
 
-// Whether sums of doubles come out as the contracts say, for a caller that passes 1.0 and the least double above 0, 2^-1074: 0 where they do, 1
-// where the thread rounds otherwise than to nearest with ties to even, else 2 where it takes a subnormal number for 0. The proof is over
-// doubles that always do, so by it the answer to these two is 0: the call is for finding out that a thread was set otherwise. The operands
-// come from outside, so that the compiler cannot work the sums out beforehand.
+// Whether sums of doubles come out as the contracts say, for a caller that passes 1.0 and the least double
+// above 0, 2^-1074: 0 where they do, 1 where the thread rounds otherwise than to nearest with ties to even,
+// else 2 where it takes a subnormal number for 0. The proof is over doubles that always do, so by it the
+// answer to these two is 0: the call is for finding out that a thread was set otherwise. The operands come
+// from outside, so that the compiler cannot work the sums out beforehand.
 #[no_mangle]
 pub extern "C" fn yultarvas_environment(one: f64, least: f64) -> u32
     ensures { λ r. ⌜ r ≡ environmentOf one least ⌝ }
