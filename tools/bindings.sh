@@ -1,8 +1,10 @@
 #!/usr/bin/env bash
-# Proves and builds the static library for this machine (tools/native.sh), and runs over it the tests and examples of bindings/rust, the programs
-# of bindings/c, and an installation of the C library. It runs on x86-64 and on Arm (aarch64).
+# Proves and builds the static library for this machine (tools/native.sh), and runs over it the tests and
+# examples of bindings/rust, the programs of bindings/c, and an installation of the C library. It runs on
+# x86-64 and on Arm (aarch64).
 #   bash tools/bindings.sh
-# It needs the Rattle toolchain, cargo and a C compiler; no network, and no crate beside bindings/rust. From the environment:
+# It needs the Rattle toolchain, cargo and a C compiler; no network, and no crate beside bindings/rust. From
+# the environment:
 #   CC             the C compiler; cc where it is not set
 #   YULTARVAS_LIB  a folder with a libyultarvas.a for this machine, which is then not built
 set -euo pipefail
@@ -10,7 +12,9 @@ if [ $# -ne 0 ]; then echo "usage: bash tools/bindings.sh" >&2; exit 2; fi
 if [ -n "${YULTARVAS_LIB:-}" ]; then YULTARVAS_LIB=$(cd "$YULTARVAS_LIB" && pwd); fi
 cd "$(dirname "$0")/.."
 export CC=${CC:-cc}
-for tool in cargo "$CC"; do command -v "$tool" >/dev/null || { echo "bindings.sh: no $tool on the path" >&2; exit 2; }; done
+for tool in cargo "$CC"; do
+    command -v "$tool" >/dev/null || { echo "bindings.sh: no $tool on the path" >&2; exit 2; }
+done
 if [ -z "${YULTARVAS_LIB:-}" ]; then
     bash tools/native.sh yultarvas
     YULTARVAS_LIB=$PWD/target/native
@@ -28,20 +32,25 @@ cargo run "${rust[@]}" --example page -- samples/example.page
 echo "---- C"
 flags=(-std=c11 -O2 -Wall -Wextra -Werror)
 for program in example environment stack; do
-    "$CC" "${flags[@]}" -frounding-math -Iinclude "bindings/c/$program.c" "$YULTARVAS_LIB/libyultarvas.a" -lm -lpthread -o "$work/$program"
+    "$CC" "${flags[@]}" -frounding-math -Iinclude "bindings/c/$program.c" "$YULTARVAS_LIB/libyultarvas.a" \
+        -lm -lpthread -o "$work/$program"
     echo "-- $program"
     "$work/$program"
 done
 
 version=$(sed -n 's/^#define YULTARVAS_VERSION "\(.*\)"$/\1/p' include/yultarvas.h)
-grep -q "^version = \"$version\"\$" bindings/rust/Cargo.toml || { echo "the header and the Rust crate are of different versions" >&2; exit 1; }
+if ! grep -q "^version = \"$version\"\$" bindings/rust/Cargo.toml; then
+    echo "the header and the Rust crate are of different versions" >&2
+    exit 1
+fi
 if ! command -v make >/dev/null; then
     echo "all passed, on $(uname -m); the installation was not tried: there is no make"
     exit
 fi
 echo "---- C, installed"
 make -s -C bindings/c install DESTDIR="$work/root" PREFIX=/usr YULTARVAS_LIB="$YULTARVAS_LIB"
-"$CC" "${flags[@]}" -I"$work/root/usr/include" bindings/c/example.c -L"$work/root/usr/lib" -lyultarvas -o "$work/installed"
+"$CC" "${flags[@]}" -I"$work/root/usr/include" bindings/c/example.c -L"$work/root/usr/lib" -lyultarvas \
+    -o "$work/installed"
 "$work/installed" >/dev/null
 grep -q "^Version: $version\$" "$work/root/usr/lib/pkgconfig/yultarvas.pc"
 echo "all passed, on $(uname -m)"

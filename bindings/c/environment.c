@@ -1,5 +1,6 @@
-/* yultarvas_environment_now on threads that were set otherwise: each rounding mode of C, and flush-to-zero by the processor's own register.
- * It has to say no to each, and yes again once the thread is set back. What a flushed subnormal block then gives is printed beside it. */
+/* yultarvas_environment_now on threads that were set otherwise: each rounding mode of C, and flush-to-zero by
+ * the processor's own register. It has to say no to each, and yes again once the thread is set back. What a
+ * flushed subnormal block then gives is printed beside it. */
 #include "yultarvas.h"
 #include <fenv.h>
 #include <inttypes.h>
