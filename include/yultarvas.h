@@ -1,9 +1,27 @@
-/* Yultarvas from C: the calls of the static library libexports.a, which `rt staticlib exports` writes for x86-64 Linux.
+/* Yultarvas from C: words, points and samples of motor current traces. These are the calls of the static
+ * library libyultarvas.a, every function of which is proved against its contract. `bash tools/native.sh
+ * yultarvas` builds it for the machine that it stands on.
  *
- * Each call answers 0 or the number of the refusal, and on a refusal writes nothing: 8 stands before all others where a slice is too short
- * for the 24 places of a block (a page's 9 stands before its 8). Of a longer slice the first 24 places are meant, and the rest stays as it is.
- * A slice is a pointer and its length in elements, which is at most PTRDIFF_MAX bytes. No pointer may be null, with length 0 neither; each is
- * aligned for its type, and what a call writes overlaps nothing else that the call is lent. */
+ * Answers. Each call answers YULTARVAS_OK or the number of the refusal, and on a refusal writes nothing.
+ * Where more than one number would fit, the first of those that stand behind 'Refused:' is answered.
+ *
+ * Slices. A slice is a pointer and its length in elements, in this order; the length is at most PTRDIFF_MAX
+ * bytes. A block of 24 stands at a slice's start; of a longer slice the rest is neither read nor written. A
+ * slice of length 0 is never looked at, so (NULL, 0) is an empty slice. Every other pointer is not null and
+ * is aligned for its type, and what a call writes overlaps nothing else that the call is lent. The library
+ * cannot check that, and no proof covers it.
+ *
+ * Threads. No call keeps anything between calls and none writes to memory but what it is lent and its own
+ * stack, so any number of threads may call at once, as long as they do not lend the same memory for writing.
+ * No call allocates or locks; of the host it uses memcpy, memmove and memset alone.
+ *
+ * Stack. yultarvas_encode, yultarvas_encode_with and yultarvas_encode_at_scale take up to 145 KB of stack
+ * (144,704 bytes on aarch64, 136,904 on x86-64), the other calls up to 21 KB. No theorem bounds the stack:
+ * tools/stack.sh measures it. Have YULTARVAS_STACK bytes left.
+ *
+ * Doubles. The contracts are over IEEE 754 doubles, rounded to nearest with ties to even, subnormal numbers
+ * kept. That is how a thread starts; a host that has set another rounding mode or flush-to-zero (as a program
+ * linked with -ffast-math does) gets other answers with no refusal. yultarvas_environment_now tells. */
 #ifndef YULTARVAS_H
 #define YULTARVAS_H
 
@@ -14,21 +32,99 @@
 extern "C" {
 #endif
 
+/* The version of this header and of the calls that it declares. */
+#define YULTARVAS_VERSION_MAJOR 0
+#define YULTARVAS_VERSION_MINOR 2
+#define YULTARVAS_VERSION_PATCH 0
+#define YULTARVAS_VERSION "0.2.0"
+
+/* Samples of a block, coordinates of a point; the most blocks of a page; the most counts of a page. */
+#define YULTARVAS_BLOCK 24
+#define YULTARVAS_PAGE_BLOCKS 64
+#define YULTARVAS_PAGE_COUNTS 1536
+
+/* Bytes of stack that a thread should have left for any one call: more than twice what was measured. */
+#define YULTARVAS_STACK 327680
+
+/* What a call answers. A later version may have further numbers, so let a switch have a default. */
+enum yultarvas_number {
+    YULTARVAS_OK = 0,
+    YULTARVAS_NOT_FINITE = 1,      /* a sample is NaN or infinite */
+    YULTARVAS_TOO_LARGE = 2,       /* a sample's magnitude exceeds 1e290 */
+    YULTARVAS_BAD_SCALE = 3,       /* the scale is not a finite number above 0 */
+    YULTARVAS_FAR_QUOTIENT = 4,    /* a sample over the scale exceeds 1e6 in magnitude */
+    YULTARVAS_NO_WORD = 5,         /* no word decodes to the point */
+    YULTARVAS_BAD_SETTING = 7,     /* the setting of the shrinks is 0 */
+    YULTARVAS_NO_ROOM = 8,         /* a slice is too short */
+    YULTARVAS_NO_PAGE = 9          /* the text is no page */
+};
+
+/* What yultarvas_environment answers. */
+enum yultarvas_environment_answer {
+    YULTARVAS_ENVIRONMENT_OK = 0,
+    YULTARVAS_OTHER_ROUNDING = 1,  /* sums are not rounded to nearest, ties to even */
+    YULTARVAS_NO_SUBNORMALS = 2    /* a subnormal number is taken for 0 */
+};
+
+/* ---- words and points */
+
 /* The point of a word, in natural order, into point. Bits 47 and up are ignored. Refused: 8. */
 uint32_t yultarvas_decode(uint64_t word, int32_t *point, size_t point_len);
 
-/* The word of a point, with gain 0, into word. Refused: 8; 5 where no word decodes to the point. */
+/* The word of a point, with gain 0, into word. Refused: 8, 5. */
 uint32_t yultarvas_encode_point(const int32_t *point, size_t point_len, uint64_t *word);
 
-/* The code of samples at a scale and a setting of the shrinks: word, point and score. Refused: 8, 7, 3, 1, 2, 4. */
-uint32_t yultarvas_encode_at_scale(const double *samples, size_t samples_len, double scale, uint32_t setting, uint64_t *word, int32_t *point,
-                                   size_t point_len, double *score);
+/* ---- samples to codes: the word, its point and the score */
 
-/* The code of samples at the scale that they give: word, point and score. Refused: 8, 1, 2. */
-uint32_t yultarvas_encode(const double *samples, size_t samples_len, uint64_t *word, int32_t *point, size_t point_len, double *score);
+/* At the scale that the samples give: what a recorder calls. Samples that are all zero have word 0 and the
+ * score minus infinity. Refused: 8, 1, 2. */
+uint32_t yultarvas_encode(const double *samples, size_t samples_len, uint64_t *word, int32_t *point,
+                          size_t point_len, double *score);
 
-/* The counts of a page, 24 a block, into counts, and how many blocks it has: 1536 places hold any page. Refused: 9 where the text is no page, 8. */
-uint32_t yultarvas_read_page(const uint8_t *text, size_t text_len, int32_t *counts, size_t counts_len, size_t *blocks);
+/* The same at a setting, the number of shrinks that the search tries; all from 8 up are the same, and
+ * yultarvas_encode uses 8. Refused: 8, 7, 1, 2. */
+uint32_t yultarvas_encode_with(const double *samples, size_t samples_len, uint32_t setting, uint64_t *word,
+                               int32_t *point, size_t point_len, double *score);
+
+/* At a scale and a setting. Refused: 8, 7, 3, 1, 2, 4. */
+uint32_t yultarvas_encode_at_scale(const double *samples, size_t samples_len, double scale, uint32_t setting,
+                                   uint64_t *word, int32_t *point, size_t point_len, double *score);
+
+/* ---- a scale and a score by themselves */
+
+/* The largest magnitude of the samples into largest, and the lower of the two scales that yultarvas_encode
+ * tries into scale; +0.0 in each where all samples are zero. Refused: 8, 1, 2. */
+uint32_t yultarvas_lower_scale(const double *samples, size_t samples_len, double *largest, double *scale);
+
+/* The score of samples at a point, samples times point over the root of point times point, into score; minus
+ * infinity at the origin. Refused: 8, 1, 2. */
+uint32_t yultarvas_t_of(const double *samples, size_t samples_len, const int32_t *point, size_t point_len,
+                        double *score);
+
+/* ---- pages */
+
+/* The counts of a page, 24 per block, into counts, and how many blocks it has into blocks.
+ * YULTARVAS_PAGE_COUNTS places hold any page. Refused: 9, 8. */
+uint32_t yultarvas_read_page(const uint8_t *text, size_t text_len, int32_t *counts, size_t counts_len,
+                             size_t *blocks);
+
+/* The num of a page into num, its words into words, and how many there are into count. YULTARVAS_PAGE_BLOCKS
+ * places hold any page. Refused: 9, 8. */
+uint32_t yultarvas_parse_page(const uint8_t *text, size_t text_len, uint32_t *num, uint64_t *words,
+                              size_t words_len, size_t *count);
+
+/* ---- the environment */
+
+/* Three sums of doubles, at one = 1.0 and least = 2^-1074, the least double above 0. The proof is over
+ * doubles of which the answer is always YULTARVAS_ENVIRONMENT_OK; on a thread that rounds otherwise, or
+ * flushes, the same sums come out otherwise. The operands are arguments so that no compiler works the sums
+ * out beforehand. */
+uint32_t yultarvas_environment(double one, double least);
+
+/* How the calling thread stands: to be asked once at start-up, and after code that may have changed it. */
+static inline uint32_t yultarvas_environment_now(void) {
+    return yultarvas_environment(1.0, 4.9406564584124654e-324);
+}
 
 #ifdef __cplusplus
 }

@@ -1,30 +1,56 @@
 #!/usr/bin/env bash
-# Proves and builds the static library of crate exports, and runs over it the tests of bindings/rust and the program of bindings/c.
+# Proves and builds the static library for this machine (tools/native.sh), and runs over it the tests and
+# examples of bindings/rust, the programs of bindings/c, and an installation of the C library. It runs on
+# x86-64 and on Arm (aarch64).
 #   bash tools/bindings.sh
-# The library is built for x86-64 Linux. It needs cargo and a C compiler. From the environment:
+# It needs the Rattle toolchain, cargo and a C compiler; no network, and no crate beside bindings/rust. From
+# the environment:
 #   CC             the C compiler; cc where it is not set
-#   TARGET, RUN    on another machine: x86_64-unknown-linux-gnu, of which rustc has the library and for which CC compiles; and the words that
-#                  run a program for it, as an emulator with its options
-#   YULTARVAS_LIB  a folder with a libexports.a, which is then not built: one for the machine itself needs no TARGET
+#   YULTARVAS_LIB  a folder with a libyultarvas.a for this machine, which is then not built
 set -euo pipefail
+if [ $# -ne 0 ]; then echo "usage: bash tools/bindings.sh" >&2; exit 2; fi
 if [ -n "${YULTARVAS_LIB:-}" ]; then YULTARVAS_LIB=$(cd "$YULTARVAS_LIB" && pwd); fi
 cd "$(dirname "$0")/.."
-if [ "$(uname -m)" != x86_64 ] && [ -z "${TARGET:-}${YULTARVAS_LIB:-}" ]; then
-    echo "the library is built for x86-64, and this is $(uname -m): set TARGET, CC and RUN, or YULTARVAS_LIB" >&2
-    exit 2
-fi
+export CC=${CC:-cc}
+for tool in cargo "$CC"; do
+    command -v "$tool" >/dev/null || { echo "bindings.sh: no $tool on the path" >&2; exit 2; }
+done
 if [ -z "${YULTARVAS_LIB:-}" ]; then
-    rt staticlib exports
-    YULTARVAS_LIB=$PWD/target/staticlib
+    bash tools/native.sh yultarvas
+    YULTARVAS_LIB=$PWD/target/native
 fi
 export YULTARVAS_LIB
-CC=${CC:-cc}
-if [ -n "${TARGET:-}" ]; then
-    cargo_target=CARGO_TARGET_$(tr 'a-z-' 'A-Z_' <<<"$TARGET")
-    export "${cargo_target}_LINKER=$CC" "${cargo_target}_RUNNER=${RUN:-env}"
-fi
-cargo test --offline --release ${TARGET:+--target "$TARGET"} --manifest-path bindings/rust/Cargo.toml
 work=$(mktemp -d)
 trap 'rm -rf "$work"' EXIT
-"$CC" -std=c11 -O2 -Wall -Wextra -Werror -Iinclude bindings/c/example.c "$YULTARVAS_LIB/libexports.a" -o "$work/example"
-${RUN:-} "$work/example"
+
+echo "---- Rust"
+rust=(--offline --release --manifest-path bindings/rust/Cargo.toml)
+cargo test "${rust[@]}"
+cargo run "${rust[@]}" --example samples
+cargo run "${rust[@]}" --example page -- samples/example.page
+
+echo "---- C"
+flags=(-std=c11 -O2 -Wall -Wextra -Werror)
+for program in example environment stack; do
+    "$CC" "${flags[@]}" -frounding-math -Iinclude "bindings/c/$program.c" "$YULTARVAS_LIB/libyultarvas.a" \
+        -lm -lpthread -o "$work/$program"
+    echo "-- $program"
+    "$work/$program"
+done
+
+version=$(sed -n 's/^#define YULTARVAS_VERSION "\(.*\)"$/\1/p' include/yultarvas.h)
+if ! grep -q "^version = \"$version\"\$" bindings/rust/Cargo.toml; then
+    echo "the header and the Rust crate are of different versions" >&2
+    exit 1
+fi
+if ! command -v make >/dev/null; then
+    echo "all passed, on $(uname -m); the installation was not tried: there is no make"
+    exit
+fi
+echo "---- C, installed"
+make -s -C bindings/c install DESTDIR="$work/root" PREFIX=/usr YULTARVAS_LIB="$YULTARVAS_LIB"
+"$CC" "${flags[@]}" -I"$work/root/usr/include" bindings/c/example.c -L"$work/root/usr/lib" -lyultarvas \
+    -o "$work/installed"
+"$work/installed" >/dev/null
+grep -q "^Version: $version\$" "$work/root/usr/lib/pkgconfig/yultarvas.pc"
+echo "all passed, on $(uname -m)"

@@ -1,6 +1,7 @@
-/* Each call once, from C: prints what it answers, and fails where an answer is not the one that is known. */
+/* Each call from C: prints what was asked, and fails where an answer is not the one that is known. */
 #include "yultarvas.h"
 #include <inttypes.h>
+#include <math.h>
 #include <stdio.h>
 #include <string.h>
 
@@ -17,33 +18,107 @@ static uint64_t bits(double x) {
     return b;
 }
 
-int main(void) {
-    /* 30 places, of which a call uses 24 */
-    int32_t point[30];
+static const char *const text = "format=tetra-page\nnum=128\ncount=1\nword=000000000001\n";
+
+static void words_and_points(void) {
+    int32_t point[30]; /* of which a call uses 24 */
     uint64_t word = 7;
-    double score = 7.0;
     for (int i = 0; i < 30; i++) point[i] = 9;
-
-    expect("decode", yultarvas_decode(1, point, 30) == 0 && point[0] == 1 && point[23] == -3 && point[24] == 9);
-    expect("encode_point", yultarvas_encode_point(point, 30, &word) == 0 && word == 1);
+    expect("decode", yultarvas_decode(1, point, 30) == YULTARVAS_OK && point[0] == 1 && point[23] == -3
+                         && point[24] == 9);
+    expect("encode_point", yultarvas_encode_point(point, 30, &word) == YULTARVAS_OK && word == 1);
     point[0] = 2;
-    expect("encode_point, no word", yultarvas_encode_point(point, 24, &word) == 5 && word == 1);
+    expect("encode_point, no word",
+           yultarvas_encode_point(point, 24, &word) == YULTARVAS_NO_WORD && word == 1);
+}
 
-    double samples[24] = {4.1, 3.9};
-    expect("encode_at_scale", yultarvas_encode_at_scale(samples, 24, 1.0, 8, &word, point, 30, &score) == 0 && word == 0x3800 && point[0] == 4
-                                  && point[1] == 4 && point[2] == 0 && point[24] == 9 && bits(score) == 0x4016a09e667f3bcc);
-    expect("encode_at_scale, scale 0", yultarvas_encode_at_scale(samples, 24, 0.0, 8, &word, point, 30, &score) == 3 && word == 0x3800);
-    expect("encode, short", yultarvas_encode(samples, 23, &word, point, 30, &score) == 8 && word == 0x3800);
-    expect("encode", yultarvas_encode(samples, 24, &word, point, 30, &score) == 0 && word == 0x04501a0e2e5a && point[0] == 8 && point[1] == 6
+static void samples(void) {
+    double x[YULTARVAS_BLOCK] = {4.1, 3.9}, score = 7.0, largest = 7.0, scale = 7.0;
+    int32_t point[30], again[YULTARVAS_BLOCK];
+    uint64_t word = 7;
+    point[24] = 9;
+    expect("encode_at_scale",
+           yultarvas_encode_at_scale(x, 24, 1.0, 8, &word, point, 30, &score) == YULTARVAS_OK
+               && word == 0x3800 && point[0] == 4 && point[1] == 4 && point[2] == 0 && point[24] == 9
+               && bits(score) == 0x4016a09e667f3bcc);
+    expect("encode_at_scale, scale 0",
+           yultarvas_encode_at_scale(x, 24, 0.0, 8, &word, point, 30, &score) == YULTARVAS_BAD_SCALE
+               && word == 0x3800);
+    expect("encode, short",
+           yultarvas_encode(x, 23, &word, point, 30, &score) == YULTARVAS_NO_ROOM && word == 0x3800);
+    expect("encode", yultarvas_encode(x, 24, &word, point, 30, &score) == YULTARVAS_OK
+                         && word == 0x04501a0e2e5a && point[0] == 8 && point[1] == 6
                          && bits(score) == 0x4013dea4b20153b5);
     printf("word=%012" PRIx64 " score=%.17g\n", word, score);
-    int32_t again[24];
-    expect("decode again", yultarvas_decode(word, again, 24) == 0 && memcmp(again, point, sizeof again) == 0);
+    expect("decode again",
+           yultarvas_decode(word, again, 24) == YULTARVAS_OK && memcmp(again, point, sizeof again) == 0);
+    expect("t_of",
+           yultarvas_t_of(x, 24, point, 30, &largest) == YULTARVAS_OK && bits(largest) == bits(score));
+    expect("encode_with, setting 0",
+           yultarvas_encode_with(x, 24, 0, &word, point, 30, &score) == YULTARVAS_BAD_SETTING
+               && word == 0x04501a0e2e5a);
+    word = 7;
+    expect("encode_with", yultarvas_encode_with(x, 24, 8, &word, point, 30, &score) == YULTARVAS_OK
+                              && word == 0x04501a0e2e5a);
+    expect("lower_scale", yultarvas_lower_scale(x, 24, &largest, &scale) == YULTARVAS_OK && largest == 4.1
+                              && 0.0 < scale && scale < 1.0);
+    double zeros[YULTARVAS_BLOCK] = {0};
+    expect("encode, zeros", yultarvas_encode(zeros, 24, &word, point, 24, &score) == YULTARVAS_OK && word == 0
+                                && score == -INFINITY);
+}
 
-    const char *text = "format=tetra-page\nnum=128\ncount=1\nword=000000000001\n";
+static void pages(void) {
+    int32_t counts[YULTARVAS_PAGE_COUNTS];
+    uint64_t words[YULTARVAS_PAGE_BLOCKS];
     size_t blocks = 7;
-    expect("read_page", yultarvas_read_page((const uint8_t *)text, strlen(text), point, 24, &blocks) == 0 && blocks == 1 && point[0] == 1
-                            && point[23] == -2);
-    expect("read_page, cut off", yultarvas_read_page((const uint8_t *)text, strlen(text) - 1, point, 24, &blocks) == 9 && blocks == 1);
+    uint32_t num = 7;
+    const uint8_t *t = (const uint8_t *)text;
+    expect("read_page", yultarvas_read_page(t, strlen(text), counts, 24, &blocks) == YULTARVAS_OK
+                            && blocks == 1 && counts[0] == 1 && counts[23] == -2);
+    expect("read_page, cut off",
+           yultarvas_read_page(t, strlen(text) - 1, counts, 24, &blocks) == YULTARVAS_NO_PAGE && blocks == 1);
+    expect("parse_page",
+           yultarvas_parse_page(t, strlen(text), &num, words, YULTARVAS_PAGE_BLOCKS, &blocks) == YULTARVAS_OK
+               && num == 128 && blocks == 1 && words[0] == 1);
+}
+
+/* (NULL, 0) is an empty slice, for each slice that a call takes. */
+static void nothing(void) {
+    const uint8_t *empty = (const uint8_t *)"format=tetra-page\nnum=1\ncount=0\n";
+    size_t n = strlen((const char *)empty), blocks = 7;
+    uint32_t num = 7;
+    uint64_t word = 7;
+    double x[YULTARVAS_BLOCK] = {1.0}, score = 7.0, scale = 7.0;
+    int32_t point[YULTARVAS_BLOCK] = {0};
+    expect("decode into nothing", yultarvas_decode(1, NULL, 0) == YULTARVAS_NO_ROOM);
+    expect("encode_point of nothing", yultarvas_encode_point(NULL, 0, &word) == YULTARVAS_NO_ROOM);
+    expect("encode of nothing", yultarvas_encode(NULL, 0, &word, point, 24, &score) == YULTARVAS_NO_ROOM);
+    expect("encode into nothing", yultarvas_encode(x, 24, &word, NULL, 0, &score) == YULTARVAS_NO_ROOM);
+    expect("encode_with of nothing",
+           yultarvas_encode_with(NULL, 0, 8, &word, NULL, 0, &score) == YULTARVAS_NO_ROOM);
+    expect("encode_at_scale of nothing",
+           yultarvas_encode_at_scale(NULL, 0, 1.0, 8, &word, NULL, 0, &score) == YULTARVAS_NO_ROOM);
+    expect("lower_scale of nothing", yultarvas_lower_scale(NULL, 0, &score, &scale) == YULTARVAS_NO_ROOM);
+    expect("t_of of nothing", yultarvas_t_of(NULL, 0, NULL, 0, &score) == YULTARVAS_NO_ROOM);
+    expect("word and score as they were", word == 7 && score == 7.0 && scale == 7.0);
+    expect("read_page of nothing",
+           yultarvas_read_page(NULL, 0, NULL, 0, &blocks) == YULTARVAS_NO_PAGE && blocks == 7);
+    expect("parse_page of nothing", yultarvas_parse_page(NULL, 0, &num, NULL, 0, &blocks) == YULTARVAS_NO_PAGE
+                                        && blocks == 7 && num == 7);
+    expect("an empty page into nothing",
+           yultarvas_read_page(empty, n, NULL, 0, &blocks) == YULTARVAS_OK && blocks == 0);
+    expect("its words",
+           yultarvas_parse_page(empty, n, &num, NULL, 0, &blocks) == YULTARVAS_OK && blocks == 0 && num == 1);
+}
+
+int main(void) {
+    if (yultarvas_environment_now() != YULTARVAS_ENVIRONMENT_OK) {
+        fprintf(stderr, "this thread does not round as the library wants it\n");
+        return 1;
+    }
+    words_and_points();
+    samples();
+    pages();
+    nothing();
     return failures != 0;
 }

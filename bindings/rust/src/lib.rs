@@ -1,136 +1,214 @@
-//! Safe calls of the static library `exports`, every function of which is proved against its contract.
+//! Words, points and samples of motor current traces: safe calls of the static library `libyultarvas.a`,
+//! every function of which is proved against its contract.
 //!
-//! A block's 24 values stand at the start of a slice. A call that is refused answers the number of the refusal.
+//! A block is [`BLOCK`] samples, and has one 48-bit word, which stands for a point of the Leech lattice. A
+//! trace page holds up to [`PAGE_BLOCKS`] words. A call that is refused answers a [`Refused`], whose
+//! [`Refused::number`] is the one that documents and other languages use.
+//!
+//! **Doubles.** The contracts are over IEEE 754 doubles, rounded to nearest with ties to even, subnormal
+//! numbers kept, as a thread starts. A program that calls C code which sets another rounding mode or
+//! flush-to-zero gets other answers with no refusal; [`environment`] tells.
+//!
+//! **Stack.** [`encode`], [`encode_with`] and [`encode_at_scale`] take up to 145 KB of stack (144,704 bytes
+//! on aarch64, 136,904 on x86-64: measured by tools/stack.sh, no theorem bounds it): more than some threads
+//! have. Have [`STACK`] bytes left.
+//!
+//! **Threads.** No call keeps anything, allocates or locks: any number of threads may call at once.
 //!
 //! ```
-//! use yultarvas::{decode, encode, encode_point, read_page, Refused};
+//! use yultarvas::{decode, encode, encode_point, environment, parse_page, read_page, PAGE_COUNTS};
 //!
-//! fn main() -> Result<(), Refused> {
-//!     let samples: Vec<f64> = (0..24).map(|k| (k as f64 * 0.3).sin()).collect();
+//! fn main() -> Result<(), Box<dyn std::error::Error>> {
+//!     environment()?; // once, at start-up
+//!     let samples = std::array::from_fn(|k| (k as f64 * 0.3).sin());
 //!     let code = encode(&samples)?; // the word, its point and the score, at the scale that the samples give
 //!     assert_eq!(decode(code.word), code.point);
 //!     assert_eq!(encode_point(&code.point), Ok(code.word));
-//!     let mut counts = [0; 1536]; // places for any page
-//!     let blocks = read_page(b"format=tetra-page\nnum=128\ncount=1\nword=000000000001\n", &mut counts)?;
+//!     let text = b"format=tetra-page\nnum=128\ncount=1\nword=000000000001\n";
+//!     let mut counts = [0; PAGE_COUNTS]; // places for any page
+//!     let blocks = read_page(text, &mut counts)?;
 //!     println!("{:?}", &counts[..24 * blocks]);
+//!     assert_eq!(parse_page(text)?.words(), [1]);
 //!     Ok(())
 //! }
 //! ```
-use std::fmt;
+#![no_std]
+#![warn(missing_docs)]
 
-/// The calls as the library has them: a slice is a pointer and a length. A refused call writes nothing.
-pub mod raw {
-    extern "C" {
-        pub fn yultarvas_decode(word: u64, point: *mut i32, point_len: usize) -> u32;
-        pub fn yultarvas_encode_point(point: *const i32, point_len: usize, word: *mut u64) -> u32;
-        pub fn yultarvas_encode_at_scale(
-            samples: *const f64,
-            samples_len: usize,
-            scale: f64,
-            setting: u32,
-            word: *mut u64,
-            point: *mut i32,
-            point_len: usize,
-            score: *mut f64,
-        ) -> u32;
-        pub fn yultarvas_encode(samples: *const f64, samples_len: usize, word: *mut u64, point: *mut i32, point_len: usize, score: *mut f64) -> u32;
-        pub fn yultarvas_read_page(text: *const u8, text_len: usize, counts: *mut i32, counts_len: usize, blocks: *mut usize) -> u32;
-    }
-}
+pub mod raw;
+mod refused;
 
-/// The number of a refusal: 1 a sample is NaN or infinite, 2 a sample's magnitude exceeds 1e290, 3 the scale is not a finite number above 0, 4 a
-/// quotient exceeds 1e6 in magnitude, 5 no word decodes to the point, 7 the setting is 0, 8 a slice is too short, 9 the text is no page.
-#[derive(Clone, Copy, Debug, PartialEq, Eq)]
-pub struct Refused(pub u32);
+use core::hint::black_box;
+pub use refused::{Environment, Refused};
 
-impl fmt::Display for Refused {
-    fn fmt(&self, f: &mut fmt::Formatter<'_>) -> fmt::Result {
-        write!(f, "refused={}", self.0)
-    }
-}
+/// Samples of a block, and coordinates of a point.
+pub const BLOCK: usize = 24;
+/// The most blocks that a page has.
+pub const PAGE_BLOCKS: usize = 64;
+/// The most counts that a page has.
+pub const PAGE_COUNTS: usize = PAGE_BLOCKS * BLOCK;
 
-impl std::error::Error for Refused {}
+/// Bytes of stack that a thread should have left for any one call: more than twice what was measured.
+pub const STACK: usize = 320 * 1024;
 
-/// A block's code: its word with gain 0, the point in natural order, and the score.
+/// A block's code. A later version may add fields.
 #[derive(Clone, Copy, Debug, PartialEq)]
+#[non_exhaustive]
 pub struct Code {
+    /// The word, with gain 0.
     pub word: u64,
-    pub point: [i32; 24],
+    /// The point that the word decodes to, in natural order.
+    pub point: [i32; BLOCK],
+    /// The score of the samples at the point; minus infinity at the origin.
     pub score: f64,
 }
 
-fn answer<T>(number: u32, value: T) -> Result<T, Refused> {
-    if number == 0 {
-        Ok(value)
-    } else {
-        Err(Refused(number))
+/// What samples say about their scale.
+#[derive(Clone, Copy, Debug, PartialEq)]
+#[non_exhaustive]
+pub struct Scales {
+    /// The largest magnitude of the samples.
+    pub largest: f64,
+    /// The lower of the two scales that [`encode`] tries; +0.0 where all samples are zero.
+    pub scale: f64,
+}
+
+/// A page's num and words.
+#[derive(Clone, Copy, Debug, PartialEq, Eq)]
+pub struct Page {
+    num: u32,
+    count: usize,
+    words: [u64; PAGE_BLOCKS],
+}
+
+impl Page {
+    /// What a coordinate is multiplied by, over 256, to give a count.
+    pub const fn num(&self) -> u32 {
+        self.num
+    }
+
+    /// The words of the page's blocks, in order.
+    pub fn words(&self) -> &[u64] {
+        &self.words[..self.count]
     }
 }
 
-// Each pointer below is that of a live reference or slice, with its own length, and what is written is borrowed mutably: this is all that
-// the library asks of its callers, since no contract has a condition.
+const EMPTY: Code = Code {
+    word: 0,
+    point: [0; BLOCK],
+    score: 0.0,
+};
+
+// Each pointer below is that of a live reference or slice, with its own length, and what is written is
+// borrowed mutably: this is all that the library asks of its callers, since no contract has a condition.
 
 /// The point of a word, in natural order. Bits 47 and up are ignored.
-pub fn decode(word: u64) -> [i32; 24] {
-    let mut point = [0; 24];
+pub fn decode(word: u64) -> [i32; BLOCK] {
+    let mut point = [0; BLOCK];
     // 24 places are enough, and nothing else is refused.
     unsafe { raw::yultarvas_decode(word, point.as_mut_ptr(), point.len()) };
     point
 }
 
-/// The word that decodes to a point. Refused with 8, 5.
-pub fn encode_point(point: &[i32]) -> Result<u64, Refused> {
+/// The word that decodes to a point, with gain 0. Refused with [`Refused::NoWord`].
+pub fn encode_point(point: &[i32; BLOCK]) -> Result<u64, Refused> {
     let mut word = 0;
     let number = unsafe { raw::yultarvas_encode_point(point.as_ptr(), point.len(), &mut word) };
-    answer(number, word)
+    Refused::unless(number, word)
 }
 
-/// The code of samples at a scale and a setting of the shrinks. Refused with 8, 7, 3, 1, 2, 4.
-pub fn encode_at_scale(samples: &[f64], scale: f64, setting: u32) -> Result<Code, Refused> {
-    let mut c = Code {
-        word: 0,
-        point: [0; 24],
-        score: 0.0,
-    };
+/// The code of samples at the scale that they give: what a recorder calls. Samples that are all zero have
+/// word 0 and the score minus infinity. Refused with [`Refused::NotFinite`], else [`Refused::TooLarge`].
+pub fn encode(samples: &[f64; BLOCK]) -> Result<Code, Refused> {
+    let mut c = EMPTY;
+    let (x, y) = (samples.as_ptr(), c.point.as_mut_ptr());
+    let number = unsafe { raw::yultarvas_encode(x, BLOCK, &mut c.word, y, BLOCK, &mut c.score) };
+    Refused::unless(number, c)
+}
+
+/// The code of samples at the scale that they give and at a setting, the number of shrinks that the search
+/// tries; all from 8 up are the same, and [`encode`] uses 8. Refused with [`Refused::BadSetting`], else as
+/// [`encode`].
+pub fn encode_with(samples: &[f64; BLOCK], setting: u32) -> Result<Code, Refused> {
+    let mut c = EMPTY;
+    let (x, y) = (samples.as_ptr(), c.point.as_mut_ptr());
+    let number =
+        unsafe { raw::yultarvas_encode_with(x, BLOCK, setting, &mut c.word, y, BLOCK, &mut c.score) };
+    Refused::unless(number, c)
+}
+
+/// The code of samples at a scale and a setting. Refused with the first that fits of
+/// [`Refused::BadSetting`], [`Refused::BadScale`], [`Refused::NotFinite`], [`Refused::TooLarge`],
+/// [`Refused::FarQuotient`].
+pub fn encode_at_scale(samples: &[f64; BLOCK], scale: f64, setting: u32) -> Result<Code, Refused> {
+    let mut c = EMPTY;
+    let (x, y) = (samples.as_ptr(), c.point.as_mut_ptr());
     let number = unsafe {
-        raw::yultarvas_encode_at_scale(
-            samples.as_ptr(),
-            samples.len(),
-            scale,
-            setting,
-            &mut c.word,
-            c.point.as_mut_ptr(),
-            c.point.len(),
-            &mut c.score,
-        )
+        raw::yultarvas_encode_at_scale(x, BLOCK, scale, setting, &mut c.word, y, BLOCK, &mut c.score)
     };
-    answer(number, c)
+    Refused::unless(number, c)
 }
 
-/// The code of samples at the scale that they give. Refused with 8, 1, 2.
-pub fn encode(samples: &[f64]) -> Result<Code, Refused> {
-    let mut c = Code {
-        word: 0,
-        point: [0; 24],
-        score: 0.0,
+/// The largest magnitude of samples, and the lower of the two scales that [`encode`] tries. Refused as
+/// [`encode`].
+pub fn lower_scale(samples: &[f64; BLOCK]) -> Result<Scales, Refused> {
+    let mut s = Scales {
+        largest: 0.0,
+        scale: 0.0,
     };
-    let number = unsafe {
-        raw::yultarvas_encode(
-            samples.as_ptr(),
-            samples.len(),
-            &mut c.word,
-            c.point.as_mut_ptr(),
-            c.point.len(),
-            &mut c.score,
-        )
-    };
-    answer(number, c)
+    let number = unsafe { raw::yultarvas_lower_scale(samples.as_ptr(), BLOCK, &mut s.largest, &mut s.scale) };
+    Refused::unless(number, s)
 }
 
-/// The counts of a page into `counts`, 24 a block, and how many blocks it has. 1,536 places hold any page. Refused with 9, 8, and then
-/// `counts` is as it was.
+/// The score of samples at a point: samples times point over the root of point times point, minus infinity at
+/// the origin. Refused as [`encode`].
+pub fn t_of(samples: &[f64; BLOCK], point: &[i32; BLOCK]) -> Result<f64, Refused> {
+    let mut score = 0.0;
+    let number = unsafe { raw::yultarvas_t_of(samples.as_ptr(), BLOCK, point.as_ptr(), BLOCK, &mut score) };
+    Refused::unless(number, score)
+}
+
+/// The counts of a page into `counts`, [`BLOCK`] per block, and how many blocks it has. [`PAGE_COUNTS`]
+/// places hold any page. Refused with [`Refused::NoPage`], else [`Refused::NoRoom`], and then `counts` is as
+/// it was.
 pub fn read_page(text: &[u8], counts: &mut [i32]) -> Result<usize, Refused> {
     let mut blocks = 0;
-    let number = unsafe { raw::yultarvas_read_page(text.as_ptr(), text.len(), counts.as_mut_ptr(), counts.len(), &mut blocks) };
-    answer(number, blocks)
+    let number = unsafe {
+        raw::yultarvas_read_page(
+            text.as_ptr(),
+            text.len(),
+            counts.as_mut_ptr(),
+            counts.len(),
+            &mut blocks,
+        )
+    };
+    Refused::unless(number, blocks)
+}
+
+/// The num and the words of a page. Refused with [`Refused::NoPage`].
+pub fn parse_page(text: &[u8]) -> Result<Page, Refused> {
+    let mut p = Page {
+        num: 0,
+        count: 0,
+        words: [0; PAGE_BLOCKS],
+    };
+    let words = p.words.as_mut_ptr();
+    let number = unsafe {
+        raw::yultarvas_parse_page(
+            text.as_ptr(),
+            text.len(),
+            &mut p.num,
+            words,
+            PAGE_BLOCKS,
+            &mut p.count,
+        )
+    };
+    Refused::unless(number, p)
+}
+
+/// Whether sums of doubles come out on this thread as the contracts say: to be asked once at start-up, and
+/// after foreign code that may have changed it.
+pub fn environment() -> Result<(), Environment> {
+    let (one, least) = (black_box(1.0), black_box(f64::from_bits(1)));
+    Environment::unless(unsafe { raw::yultarvas_environment(one, least) })
 }

@@ -1,78 +1,173 @@
-//! Slices that are too short or longer than a block, and what a call leaves in what it is lent.
-use yultarvas::{decode, encode, encode_at_scale, encode_point, raw, read_page, Code, Refused};
+//! The order of refusals; slices that are too short or longer than a block, and what a call leaves in what it
+//! is lent.
+use yultarvas::{
+    decode, encode, encode_at_scale, encode_point, encode_with, lower_scale, parse_page, raw, read_page,
+    t_of, Refused,
+};
 
 const PAGE: &[u8] = b"format=tetra-page\nnum=128\ncount=1\nword=000000000001\n";
-
-#[test]
-fn too_short() {
-    assert_eq!(encode_point(&[0; 23]), Err(Refused(8)));
-    assert_eq!(encode(&[]), Err(Refused(8)));
-    // 8 stands before every other number
-    assert_eq!(encode(&[f64::NAN; 23]), Err(Refused(8)));
-    assert_eq!(encode_at_scale(&[1.0; 23], 0.0, 0), Err(Refused(8)));
-    assert_eq!(read_page(PAGE, &mut [7; 23]), Err(Refused(8)));
-    assert_eq!(read_page(b"", &mut []), Err(Refused(9)));
-}
 
 #[test]
 fn order_of_refusals() {
     let mut x = [1.0; 24];
     x[3] = f64::NAN;
-    assert_eq!(encode_at_scale(&x, 0.0, 0), Err(Refused(7)));
-    assert_eq!(encode_at_scale(&x, 0.0, 8), Err(Refused(3)));
+    assert_eq!(encode_at_scale(&x, 0.0, 0), Err(Refused::BadSetting));
+    assert_eq!(encode_with(&x, 0), Err(Refused::BadSetting));
+    assert_eq!(encode_at_scale(&x, 0.0, 8), Err(Refused::BadScale));
     x[2] = 1e291;
-    assert_eq!(encode(&x), Err(Refused(1)));
+    assert_eq!(encode(&x), Err(Refused::NotFinite));
+    assert_eq!(encode_with(&x, 8), Err(Refused::NotFinite));
+    assert_eq!(lower_scale(&x), Err(Refused::NotFinite));
+    assert_eq!(t_of(&x, &[0; 24]), Err(Refused::NotFinite));
     x[3] = 0.0;
-    assert_eq!(encode(&x), Err(Refused(2)));
-    assert_eq!(encode_at_scale(&[1000001.0; 24], 1.0, 8), Err(Refused(4)));
-    assert_eq!(encode_point(&[1; 24]), Err(Refused(5)));
+    assert_eq!(encode(&x), Err(Refused::TooLarge));
+    assert_eq!(lower_scale(&x), Err(Refused::TooLarge));
+    assert_eq!(t_of(&x, &[0; 24]), Err(Refused::TooLarge));
+    assert_eq!(
+        encode_at_scale(&[1000001.0; 24], 1.0, 8),
+        Err(Refused::FarQuotient)
+    );
+    assert_eq!(encode_point(&[1; 24]), Err(Refused::NoWord));
+    assert_eq!(read_page(PAGE, &mut [7; 23]), Err(Refused::NoRoom));
+    assert_eq!(read_page(b"", &mut []), Err(Refused::NoPage));
+    assert_eq!(parse_page(b""), Err(Refused::NoPage));
 }
 
 #[test]
+fn numbers() {
+    let all = [
+        (1, Refused::NotFinite),
+        (2, Refused::TooLarge),
+        (3, Refused::BadScale),
+        (4, Refused::FarQuotient),
+        (5, Refused::NoWord),
+        (7, Refused::BadSetting),
+        (8, Refused::NoRoom),
+        (9, Refused::NoPage),
+        (16, Refused::Other(16)),
+    ];
+    for (number, refused) in all {
+        assert_eq!(refused.number(), number);
+    }
+    assert_eq!(
+        Refused::NoWord.to_string(),
+        "no word decodes to the point (refused with 5)"
+    );
+}
+
+#[test]
+fn known_answers() {
+    let mut x = [0.0; 24];
+    (x[0], x[1]) = (4.1, 3.9);
+    let c = encode_at_scale(&x, 1.0, 8).unwrap();
+    assert_eq!((c.word, c.point), (0x3800, decode(0x3800)));
+    assert_eq!(t_of(&x, &c.point), Ok(c.score));
+    assert_eq!(encode(&x), encode_with(&x, 8));
+    let s = lower_scale(&x).unwrap();
+    assert_eq!(s.largest, 4.1);
+    assert!(0.0 < s.scale && s.scale < s.largest);
+    let zero = encode(&[0.0; 24]).unwrap();
+    assert_eq!((zero.word, zero.score), (0, f64::NEG_INFINITY));
+}
+
+// Of a longer slice the first 24 places are meant.
+#[test]
 fn longer_slices() {
-    let mut y = vec![9; 30];
+    let mut y = [9; 30];
     assert_eq!(unsafe { raw::yultarvas_decode(1, y.as_mut_ptr(), y.len()) }, 0);
     assert_eq!(y[..24], decode(1));
     assert_eq!(y[24..], [9; 6]);
-    assert_eq!(encode_point(&y), Ok(1));
-    let mut x = vec![0.0; 30];
+    let mut word = 0;
+    assert_eq!(
+        unsafe { raw::yultarvas_encode_point(y.as_ptr(), y.len(), &mut word) },
+        0
+    );
+    assert_eq!(word, 1);
+    let mut x = [0.0; 30];
     (x[0], x[1], x[25]) = (4.1, 3.9, f64::NAN);
-    let c: Code = encode_at_scale(&x, 1.0, 8).unwrap();
-    assert_eq!(c.word, 0x3800);
-    assert_eq!(c.point, decode(0x3800));
+    let (mut largest, mut scale) = (0.0, 0.0);
+    assert_eq!(
+        unsafe { raw::yultarvas_lower_scale(x.as_ptr(), x.len(), &mut largest, &mut scale) },
+        0
+    );
+    assert_eq!(largest, 4.1);
     let mut counts = [9; 30];
     assert_eq!(read_page(PAGE, &mut counts), Ok(1));
     assert_eq!((counts[0], counts[23]), (1, -2));
     assert_eq!(counts[24..], [9; 6]);
+    let (mut num, mut words, mut count) = (0, [9; 3], 0);
+    let got = unsafe {
+        raw::yultarvas_parse_page(
+            PAGE.as_ptr(),
+            PAGE.len(),
+            &mut num,
+            words.as_mut_ptr(),
+            words.len(),
+            &mut count,
+        )
+    };
+    assert_eq!((got, num, words, count), (0, 128, [1, 9, 9], 1));
 }
 
-// A refused call leaves every cell as it was.
+// A refused call leaves every cell as it was. 8 stands before every other number, but for a page's 9.
 #[test]
 fn untouched() {
-    let (mut word, mut y, mut score, mut blocks) = (77u64, [9i32; 24], 5.5f64, 66usize);
-    let x = [f64::INFINITY; 24];
+    let (mut word, mut y, mut score, mut count, mut num, mut words) = (77, [9; 24], 5.5, 66, 55, [44; 2]);
+    let mut scale = 3.5;
+    let bad = [f64::INFINITY; 24];
+    let (x, at) = (bad.as_ptr(), y.as_mut_ptr());
+    let two = b"format=tetra-page\nnum=1\ncount=3\nword=000000000001\nword=000000000001\nword=000000000001\n";
     unsafe {
-        assert_eq!(raw::yultarvas_decode(1, y.as_mut_ptr(), 23), 8);
+        assert_eq!(raw::yultarvas_decode(1, at, 23), 8);
         assert_eq!(raw::yultarvas_encode_point([1; 24].as_ptr(), 24, &mut word), 5);
         assert_eq!(raw::yultarvas_encode_point([0; 23].as_ptr(), 23, &mut word), 8);
         assert_eq!(
-            raw::yultarvas_encode_at_scale(x.as_ptr(), 24, 1.0, 8, &mut word, y.as_mut_ptr(), 24, &mut score),
+            raw::yultarvas_encode_at_scale(x, 24, 1.0, 8, &mut word, at, 24, &mut score),
             1
         );
         assert_eq!(
-            raw::yultarvas_encode_at_scale(x.as_ptr(), 24, 1.0, 8, &mut word, y.as_mut_ptr(), 23, &mut score),
-            8
-        );
-        assert_eq!(raw::yultarvas_encode(x.as_ptr(), 24, &mut word, y.as_mut_ptr(), 24, &mut score), 1);
-        assert_eq!(
-            raw::yultarvas_encode([0.0; 24].as_ptr(), 24, &mut word, y.as_mut_ptr(), 23, &mut score),
+            raw::yultarvas_encode_at_scale(x, 24, 0.0, 0, &mut word, at, 23, &mut score),
             8
         );
         assert_eq!(
-            raw::yultarvas_read_page(PAGE.as_ptr(), PAGE.len() - 1, y.as_mut_ptr(), 24, &mut blocks),
+            raw::yultarvas_encode_at_scale(x, 23, 0.0, 0, &mut word, at, 24, &mut score),
+            8
+        );
+        assert_eq!(
+            raw::yultarvas_encode_with(x, 24, 0, &mut word, at, 24, &mut score),
+            7
+        );
+        assert_eq!(
+            raw::yultarvas_encode_with(x, 23, 0, &mut word, at, 24, &mut score),
+            8
+        );
+        assert_eq!(raw::yultarvas_encode(x, 24, &mut word, at, 24, &mut score), 1);
+        assert_eq!(raw::yultarvas_encode(x, 24, &mut word, at, 23, &mut score), 8);
+        assert_eq!(raw::yultarvas_lower_scale(x, 24, &mut score, &mut scale), 1);
+        assert_eq!(raw::yultarvas_lower_scale(x, 23, &mut score, &mut scale), 8);
+        assert_eq!(raw::yultarvas_t_of(x, 24, [1; 24].as_ptr(), 24, &mut score), 1);
+        assert_eq!(raw::yultarvas_t_of(x, 24, [1; 24].as_ptr(), 23, &mut score), 8);
+        assert_eq!(raw::yultarvas_t_of(x, 23, [1; 24].as_ptr(), 24, &mut score), 8);
+        assert_eq!(
+            raw::yultarvas_read_page(PAGE.as_ptr(), PAGE.len() - 1, at, 24, &mut count),
             9
         );
-        assert_eq!(raw::yultarvas_read_page(PAGE.as_ptr(), PAGE.len(), y.as_mut_ptr(), 23, &mut blocks), 8);
+        assert_eq!(
+            raw::yultarvas_read_page(PAGE.as_ptr(), PAGE.len(), at, 23, &mut count),
+            8
+        );
+        let w = words.as_mut_ptr();
+        assert_eq!(
+            raw::yultarvas_parse_page(PAGE.as_ptr(), PAGE.len() - 1, &mut num, w, 2, &mut count),
+            9
+        );
+        assert_eq!(
+            raw::yultarvas_parse_page(two.as_ptr(), two.len(), &mut num, w, 2, &mut count),
+            8
+        );
     }
-    assert_eq!((word, y, score, blocks), (77, [9; 24], 5.5, 66));
+    assert_eq!(
+        (word, y, score, scale, count, num, words),
+        (77, [9; 24], 5.5, 3.5, 66, 55, [44; 2])
+    );
 }

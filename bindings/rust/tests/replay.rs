@@ -1,6 +1,9 @@
 //! The requests and answers that the gate runs the programs `ask` and `page_runs` on, put to the library.
 use std::fs;
-use yultarvas::{decode, encode, encode_at_scale, encode_point, read_page, Code, Refused};
+use yultarvas::{
+    decode, encode_at_scale, encode_point, encode_with, lower_scale, parse_page, read_page, t_of, Code,
+    Refused, PAGE_COUNTS,
+};
 
 fn file(path: &str) -> String {
     let full = format!("{}/../../crates/{path}", env!("CARGO_MANIFEST_DIR"));
@@ -33,14 +36,14 @@ fn signed(s: &str) -> Option<i32> {
     }
 }
 
-fn point(words: &[&str]) -> Option<Vec<i32>> {
+fn point(words: &[&str]) -> Option<[i32; 24]> {
     let y: Option<Vec<i32>> = words.iter().map(|w| signed(w)).collect();
-    y.filter(|y| y.len() == 24)
+    y?.try_into().ok()
 }
 
-fn samples(words: &[&str]) -> Option<Vec<f64>> {
+fn samples(words: &[&str]) -> Option<[f64; 24]> {
     let x: Option<Vec<f64>> = words.iter().map(|w| hex(w).map(f64::from_bits)).collect();
-    x.filter(|x| x.len() == 24)
+    x?.try_into().ok()
 }
 
 // ---- answers, as ask prints them
@@ -50,13 +53,26 @@ fn listed(y: &[i32]) -> String {
 }
 
 fn refused(r: Refused) -> String {
-    r.to_string()
+    format!("refused={}", r.number())
+}
+
+// The sign of a zero is cleared.
+fn bits(t: f64) -> u64 {
+    if t == 0.0 {
+        0
+    } else {
+        t.to_bits()
+    }
 }
 
 fn code(c: Result<Code, Refused>) -> String {
     c.map_or_else(refused, |c| {
-        let score = if c.score == 0.0 { 0 } else { c.score.to_bits() };
-        format!("word={:012x} score={:016x} point={}", c.word, score, listed(&c.point))
+        format!(
+            "word={:012x} score={:016x} point={}",
+            c.word,
+            bits(c.score),
+            listed(&c.point)
+        )
     })
 }
 
@@ -65,28 +81,38 @@ fn setting(n: u64) -> u32 {
     n.min(8) as u32
 }
 
-// What the library answers to a request that it has a call for; `Err` where it has none.
-fn answer(line: &str) -> Result<Option<String>, ()> {
+// What the library answers to a request; `None` where the line is none.
+fn answer(line: &str) -> Option<String> {
     if line.len() >= 1024 {
-        return Ok(None);
+        return None;
     }
     let words: Vec<&str> = line.split(' ').collect();
     let rest = &words[1..];
-    Ok(match (words[0], rest.len()) {
+    match (words[0], rest.len()) {
         ("decode", 1) => hex(rest[0]).map(|w| format!("point={}", listed(&decode(w)))),
-        ("point", 24) => point(rest).map(|y| encode_point(&y).map_or_else(refused, |w| format!("word={w:012x}"))),
-        ("scale", 26) => match (digits(rest[0]), hex(rest[1]), samples(&rest[2..])) {
-            (Some(n), Some(s), Some(x)) => Some(code(encode_at_scale(&x, f64::from_bits(s), setting(n)))),
-            _ => None,
-        },
-        ("auto", 25) => match (digits(rest[0]), samples(&rest[1..])) {
-            (Some(n), Some(x)) if n >= 8 => Some(code(encode(&x))),
-            (Some(_), Some(_)) => return Err(()),
-            _ => None,
-        },
-        ("lower" | "score", _) => return Err(()),
+        ("point", 24) => {
+            point(rest).map(|y| encode_point(&y).map_or_else(refused, |w| format!("word={w:012x}")))
+        }
+        ("scale", 26) => {
+            let (n, s, x) = (digits(rest[0])?, hex(rest[1])?, samples(&rest[2..])?);
+            Some(code(encode_at_scale(&x, f64::from_bits(s), setting(n))))
+        }
+        ("auto", 25) => {
+            let (n, x) = (digits(rest[0])?, samples(&rest[1..])?);
+            Some(code(encode_with(&x, setting(n))))
+        }
+        ("lower", 24) => {
+            let scales = lower_scale(&samples(rest)?);
+            Some(scales.map_or_else(refused, |s| {
+                format!("max={:016x} scale={:016x}", bits(s.largest), bits(s.scale))
+            }))
+        }
+        ("score", 48) => {
+            let (x, y) = (samples(&rest[..24])?, point(&rest[24..])?);
+            Some(t_of(&x, &y).map_or_else(refused, |t| format!("score={:016x}", bits(t))))
+        }
         _ => None,
-    })
+    }
 }
 
 #[test]
@@ -95,36 +121,25 @@ fn requests() {
     let requests: Vec<&str> = stdin.strip_suffix('\n').unwrap_or(&stdin).split('\n').collect();
     let answers: Vec<&str> = stdout.lines().collect();
     assert_eq!(requests.len(), answers.len());
-    let mut counts = [0; 3];
+    let mut counts = [0; 2];
     for (line, expected) in requests.into_iter().zip(answers) {
-        match answer(line) {
-            Ok(Some(got)) => {
-                assert_eq!(got, expected, "{line}");
-                counts[0] += 1;
-            }
-            Ok(None) => {
-                assert_eq!("refused=9", expected, "{line}");
-                counts[1] += 1;
-            }
-            Err(()) => counts[2] += 1,
-        }
+        let got = answer(line);
+        counts[got.is_none() as usize] += 1;
+        assert_eq!(got.as_deref().unwrap_or("refused=9"), expected, "{line}");
     }
-    println!(
-        "{} answered alike, {} no requests, {} for which there is no call",
-        counts[0], counts[1], counts[2]
-    );
-    assert!(counts[0] > 1000);
+    println!("{} answered alike, {} no requests", counts[0], counts[1]);
+    assert!(counts[0] > 1500);
 }
 
 // ---- pages: for each text what `read` answers with 24 places, and then its blocks or its refusal
 
 fn blocks(text: &str) -> String {
-    let mut counts = [0; 1536];
+    let mut counts = [0; PAGE_COUNTS];
     match read_page(text.as_bytes(), &mut counts) {
         Ok(n) => (0..n)
             .map(|k| format!("block={k}\ncounts={}\n", listed(&counts[24 * k..24 * k + 24])))
             .collect(),
-        Err(r) => format!("{r}\n"),
+        Err(r) => refused(r) + "\n",
     }
 }
 
@@ -135,9 +150,32 @@ fn pages() {
     for text in texts.split('%') {
         let (number, count) = match read_page(text.as_bytes(), &mut [0; 24]) {
             Ok(n) => (0, n),
-            Err(Refused(k)) => (k, 0),
+            Err(r) => (r.number(), 0),
         };
         got += &format!("number={number} count={count}\n{}", blocks(text));
     }
     assert_eq!(got, file("page_runs/stdout"));
+}
+
+// A page written from the words that were read is the text again.
+#[test]
+fn words_of_pages() {
+    let mut pages = 0;
+    for text in file("page_runs/stdin").split('%') {
+        let counts = read_page(text.as_bytes(), &mut [0; PAGE_COUNTS]);
+        let page = parse_page(text.as_bytes());
+        assert_eq!(counts.err(), page.err());
+        let Ok(page) = page else { continue };
+        let mut again = format!(
+            "format=tetra-page\nnum={}\ncount={}\n",
+            page.num(),
+            page.words().len()
+        );
+        for word in page.words() {
+            again += &format!("word={word:012x}\n");
+        }
+        assert_eq!(again, text);
+        pages += 1;
+    }
+    assert!(pages > 3);
 }
