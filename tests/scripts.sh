@@ -65,7 +65,7 @@ untouched() {
 }
 
 for script in tools/*.sh tools/nearest/*.sh tests/*.sh; do
-    case $script in tools/common.sh | tools/bindings.sh | tools/native.sh) continue ;; esac
+    case $script in tools/common.sh) continue ;; esac
     untouched 0 "bash $script" bash "$script" --help
     untouched 2 "bash $script" bash "$script" --no-such-option
 done

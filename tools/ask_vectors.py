@@ -114,8 +114,12 @@ def answered(oracle, cases):
 
 
 def main():
+    if sys.argv[1:] in (["-h"], ["--help"]):
+        print(__doc__)
+        return
     if len(sys.argv) != 3:
-        sys.exit(__doc__)
+        print(__doc__, file=sys.stderr)
+        sys.exit(2)
     folder, oracle = sys.argv[1:]
     good = decodes(folder) + points(folder) + scales(folder) + autos(folder, oracle) + lowers(folder) + scores(folder)
     good += shrinks(folder) + odd()

@@ -8,7 +8,9 @@
 #   CC             the C compiler; cc where it is not set
 #   YULTARVAS_LIB  a folder with a libyultarvas.a for this machine, which is then not built
 set -euo pipefail
-if [ $# -ne 0 ]; then echo "usage: bash tools/bindings.sh" >&2; exit 2; fi
+. "$(dirname "$0")/common.sh"
+help_if_asked "$@"
+if [ $# -ne 0 ]; then wrong "it takes no argument"; fi
 if [ -n "${YULTARVAS_LIB:-}" ]; then YULTARVAS_LIB=$(cd "$YULTARVAS_LIB" && pwd); fi
 cd "$(dirname "$0")/.."
 export CC=${CC:-cc}

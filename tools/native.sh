@@ -19,7 +19,9 @@ refuse() {
     exit 2
 }
 
-case "${1:-}" in -*) refuse "usage: bash tools/native.sh [CRATE ..]; with no CRATE: unpage, ask and yultarvas" ;; esac
+. "$(dirname "$0")/common.sh"
+help_if_asked "$@"
+case "${1:-}" in -*) wrong "no option $1" ;; esac
 cd "$(dirname "$0")/.."
 machine=$(uname -m)
 case $machine in x86_64 | aarch64) ;; *) refuse "the toolchain is for x86-64 and aarch64, and this is $machine" ;; esac

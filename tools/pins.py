@@ -27,7 +27,7 @@ use mathlib.Core.Path.{_≡_, refl}
 use mathlib.Core.List.{List, [], _∷_, map}
 use Prim.Native.Nat.{ℕ, _^_}
 use lib.IntN.{ℤ, pos, negsuc}
-use Rattle.laws.specs.Lists.{tab}
+use Rattle.laws.specs.Words.{tab}
 use Rattle.word.specs.Word as word
 use Rattle.rank.specs.Coord.{valOf}
 use Rattle.rank.specs.Section.{pointAt}
@@ -53,7 +53,7 @@ abbrev written : ℕ × List ℤ → List ℤ
 written e = e .1
 
 pub pinned : (map decoded oneBit ≡ map written oneBit) × (map decoded allFields ≡ map written allFields)
-unfolding tab word.cut valOf pointAt rows rowRanks middleClass middleRow columns order places codewordAt
+unfolding tab word.fieldAt valOf pointAt rows rowRanks middleClass middleRow columns order places codewordAt
     thirdClass ranksAt trioPoint natural trioPointOf pointOf
 pinned = (refl, refl)
 """
@@ -113,8 +113,12 @@ def made(oracle):
 
 def main():
     oracle = os.environ.get("ORACLE")
+    if sys.argv[1:] in (["-h"], ["--help"]):
+        print(__doc__)
+        return
     if sys.argv[1:] not in ([], ["--check"]) or not oracle:
-        sys.exit(__doc__)
+        print(__doc__, file=sys.stderr)
+        sys.exit(2)
     text = made(oracle)
     if len(sys.argv) == 1:
         with open(FILE, "w", encoding="utf-8", newline="\n") as f:

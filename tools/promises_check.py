@@ -20,7 +20,7 @@ status 1, or prints how much it looked at and ends with status 0. What it takes 
   ```antt FILE               the block stands in FILE word by word; a line '..' leaves something out
 
 An item is a paragraph, a point of a list or a row of a table; the files of a row are those of all its
-columns. Text between <!-- and -->, and between the marks of the trusted list and of the key, is passed over.
+columns, but in a row of five columns, which goes across crates, a name may be declared anywhere. Text between <!-- and -->, and between the marks of the trusted list and of the key, is passed over.
 
 Besides, each public function of the crates has to be named by the first lines of two edits or more, of
 code and not of a definition; those of crate promise, which only make the calls of the others, need none."""
@@ -192,7 +192,7 @@ def check_names(text, number, base, tree, report):
             elif re.fullmatch(NAME, name) and not (crate and tree.has(name, tree.source(crate))):
                 waiting.append(name)
         if row:
-            settle(waiting, paths, number, tree, report)
+            settle(waiting, [] if text.count('|') > 5 else paths, number, tree, report)
             waiting = []
     settle(waiting, [], number, tree, report)
 

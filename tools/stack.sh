@@ -6,7 +6,9 @@
 # theorem bounds the stack; the figures stand in include/yultarvas.h and docs. It fails where a call takes
 # more than half of what the header tells callers to have.
 set -euo pipefail
-if [ $# -ne 0 ]; then echo "usage: bash tools/stack.sh" >&2; exit 2; fi
+. "$(dirname "$0")/common.sh"
+help_if_asked "$@"
+if [ $# -ne 0 ]; then wrong "it takes no argument"; fi
 if [ -n "${YULTARVAS_LIB:-}" ]; then YULTARVAS_LIB=$(cd "$YULTARVAS_LIB" && pwd); fi
 cd "$(dirname "$0")/.."
 if [ -z "${YULTARVAS_LIB:-}" ]; then

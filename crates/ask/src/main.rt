@@ -16,40 +16,59 @@
 // and from then on nothing is answered: what was written is a beginning of the right answers, whose last line
 // may be cut.
 mod parse;
-mod text;
 
 use encoder::Code;
 use libc::STDERR_FILENO;
 use libc::STDIN_FILENO;
 use libc::STDOUT_FILENO;
-use parse::Double;
-use parse::Number;
+use request::Double;
+use request::Number;
+use request::after_name;
+use request::read_decimal;
+use request::read_double;
+use request::read_hex;
+use score::Scales;
 use text::put;
 use text::put_decimal;
 use text::put_double;
 use text::put_hex;
-use text::put_point;
-use text::put_text;
+use text::put_list;
 
-// ---- answers. Each puts a line into out from `to` on, and answers the place after it.
+// ---- fields of an answer. Each puts its key and its value from `to` on, and answers the place behind them.
+
+fn word_field(out: &mut [u8], to: usize, key: &[u8], word: u64) -> usize {
+    let value = put(out, to, key);
+    put_hex(out, value, word, 12)
+}
+
+fn double_field(out: &mut [u8], to: usize, key: &[u8], x: f64) -> usize {
+    let value = put(out, to, key);
+    put_double(out, value, x)
+}
+
+fn point_field(out: &mut [u8], to: usize, key: &[u8], y: [i32; 24]) -> usize {
+    let value = put(out, to, key);
+    put_list(out, value, y)
+}
+
+// ---- answers. Each puts a line into out from `to` on, and answers the place behind it.
 
 fn refused(out: &mut [u8], to: usize, number: u32) -> usize {
-    let value = put_text(out, to, b"refused=");
+    let value = put(out, to, b"refused=");
     let end = put_decimal(out, value, number as u64);
-    put(out, end, b'\n')
+    put(out, end, b"\n")
 }
 
 // The point of the word that stands at `at`.
 fn decode(s: &[u8], at: usize, out: &mut [u8], to: usize) -> usize {
-    let Number::Read(word, next) = parse::read_hex(s, at) else {
+    let Number::Read(word, next) = read_hex(s, at) else {
         return refused(out, to, 9);
     };
     if next != s.len() {
         return refused(out, to, 9);
     }
-    let value = put_text(out, to, b"point=");
-    let end = put_point(out, value, tetra::decode(word));
-    put(out, end, b'\n')
+    let end = point_field(out, to, b"point=", tetra::decode(word));
+    put(out, end, b"\n")
 }
 
 fn encode(y: [i32; 24], out: &mut [u8], to: usize) -> usize {
@@ -57,18 +76,14 @@ fn encode(y: [i32; 24], out: &mut [u8], to: usize) -> usize {
     if e.number != 0 {
         return refused(out, to, e.number);
     }
-    let value = put_text(out, to, b"word=");
-    let end = put_hex(out, value, e.word, 12);
-    put(out, end, b'\n')
+    let end = word_field(out, to, b"word=", e.word);
+    put(out, end, b"\n")
 }
 
 // The word of the point that stands at `at`.
 fn point(s: &[u8], at: usize, out: &mut [u8], to: usize) -> usize {
     let p = parse::read_point(s, at);
-    if !p.good {
-        return refused(out, to, 9);
-    }
-    if p.next != s.len() {
+    if !p.good | (p.next != s.len()) {
         return refused(out, to, 9);
     }
     let y = p.y;
@@ -80,13 +95,10 @@ fn code(c: Code, out: &mut [u8], to: usize) -> usize {
         return refused(out, to, c.number);
     }
     let y = c.point;
-    let word = put_text(out, to, b"word=");
-    let first = put_hex(out, word, c.word, 12);
-    let score = put_text(out, first, b" score=");
-    let second = put_double(out, score, c.score);
-    let value = put_text(out, second, b" point=");
-    let end = put_point(out, value, y);
-    put(out, end, b'\n')
+    let first = word_field(out, to, b"word=", c.word);
+    let second = double_field(out, first, b" score=", c.score);
+    let end = point_field(out, second, b" point=", y);
+    put(out, end, b"\n")
 }
 
 // A setting of the shrinks: from 8 on all are the same.
@@ -96,10 +108,10 @@ fn setting(n: u64) -> u32 {
 
 // The code at a scale: setting, scale and samples stand at `at`.
 fn scale(s: &[u8], at: usize, out: &mut [u8], to: usize) -> usize {
-    let Number::Read(n, after) = parse::read_decimal(s, at) else {
+    let Number::Read(n, after) = read_decimal(s, at) else {
         return refused(out, to, 9);
     };
-    let Double::Read(by, next) = parse::read_double(s, after) else {
+    let Double::Read(by, next) = read_double(s, after) else {
         return refused(out, to, 9);
     };
     let p = parse::read_samples(s, next);
@@ -112,7 +124,7 @@ fn scale(s: &[u8], at: usize, out: &mut [u8], to: usize) -> usize {
 
 // The code at the scale that the samples give.
 fn auto(s: &[u8], at: usize, out: &mut [u8], to: usize) -> usize {
-    let Number::Read(n, next) = parse::read_decimal(s, at) else {
+    let Number::Read(n, next) = read_decimal(s, at) else {
         return refused(out, to, 9);
     };
     let p = parse::read_samples(s, next);
@@ -123,21 +135,22 @@ fn auto(s: &[u8], at: usize, out: &mut [u8], to: usize) -> usize {
     code(encoder::encode_with(x, setting(n)), out, to)
 }
 
+fn scales(l: Scales, out: &mut [u8], to: usize) -> usize {
+    if l.number != 0 {
+        return refused(out, to, l.number);
+    }
+    let first = double_field(out, to, b"max=", l.largest);
+    let end = double_field(out, first, b" scale=", l.scale);
+    put(out, end, b"\n")
+}
+
 fn lower(s: &[u8], at: usize, out: &mut [u8], to: usize) -> usize {
     let p = parse::read_samples(s, at);
     if !p.good | (p.next != s.len()) {
         return refused(out, to, 9);
     }
     let x = p.x;
-    let l = score::lower_scale(x);
-    if l.number != 0 {
-        return refused(out, to, l.number);
-    }
-    let max = put_text(out, to, b"max=");
-    let first = put_double(out, max, l.largest);
-    let value = put_text(out, first, b" scale=");
-    let end = put_double(out, value, l.scale);
-    put(out, end, b'\n')
+    scales(score::lower_scale(x), out, to)
 }
 
 fn scored(x: [f64; 24], y: [i32; 24], out: &mut [u8], to: usize) -> usize {
@@ -145,9 +158,8 @@ fn scored(x: [f64; 24], y: [i32; 24], out: &mut [u8], to: usize) -> usize {
     if t.number != 0 {
         return refused(out, to, t.number);
     }
-    let value = put_text(out, to, b"score=");
-    let end = put_double(out, value, t.score);
-    put(out, end, b'\n')
+    let end = double_field(out, to, b"score=", t.score);
+    put(out, end, b"\n")
 }
 
 // The score of samples and a point, which stand at `at`.
@@ -165,32 +177,38 @@ fn score(s: &[u8], at: usize, out: &mut [u8], to: usize) -> usize {
     scored(x, y, out, to)
 }
 
-fn answer(s: &[u8], out: &mut [u8], to: usize) -> usize {
-    let at = parse::after_name(s, b"decode");
-    if at > 0 {
-        return decode(s, at, out, to);
-    }
-    let at = parse::after_name(s, b"point");
-    if at > 0 {
-        return point(s, at, out, to);
-    }
-    let at = parse::after_name(s, b"scale");
-    if at > 0 {
-        return scale(s, at, out, to);
-    }
-    let at = parse::after_name(s, b"auto");
+// ---- requests, by their names
+
+fn answer_samples(s: &[u8], out: &mut [u8], to: usize) -> usize {
+    let at = after_name(s, b"auto");
     if at > 0 {
         return auto(s, at, out, to);
     }
-    let at = parse::after_name(s, b"lower");
+    let at = after_name(s, b"lower");
     if at > 0 {
         return lower(s, at, out, to);
     }
-    let at = parse::after_name(s, b"score");
+    let at = after_name(s, b"score");
     if at > 0 {
         return score(s, at, out, to);
     }
     refused(out, to, 9)
+}
+
+fn answer(s: &[u8], out: &mut [u8], to: usize) -> usize {
+    let at = after_name(s, b"decode");
+    if at > 0 {
+        return decode(s, at, out, to);
+    }
+    let at = after_name(s, b"point");
+    if at > 0 {
+        return point(s, at, out, to);
+    }
+    let at = after_name(s, b"scale");
+    if at > 0 {
+        return scale(s, at, out, to);
+    }
+    answer_samples(s, out, to)
 }
 
 // ---- the stream
@@ -271,8 +289,9 @@ fn take(b: u8, line: &mut [u8], out: &mut [u8], held: Held) -> Held {
             good: held.good,
         };
     }
+    let byte = [b];
     Held {
-        line: put(line, held.line, b),
+        line: put(line, held.line, &byte),
         out: held.out,
         good: held.good,
     }
@@ -285,7 +304,7 @@ fn take_all(bytes: &[u8], line: &mut [u8], out: &mut [u8], n: usize) -> Turn {
         out: 0,
         good: true,
     };
-    let mut i = 0;
+    let mut i: usize = 0;
     while i < bytes.len() && held.good {
         let taken = take(bytes[i], line, out, held);
         held = make_room(out, taken);

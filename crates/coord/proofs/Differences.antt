@@ -5,7 +5,7 @@ use Prim.Native.Nat.{ℕ, suc, _+_, _-_, _<_, _≤_}
 use native.Mathlib.Omega.{arith}
 use borrow.Author.Tests.{lt-ltb, le-ltb}
 use lib.IntN.{ℤ, pos, negsuc, subℕ, _+ℤ_}
-use Rattle.laws.specs.Whole.{sub-by}
+use Rattle.laws.specs.Laws.Whole.{sub-by}
 
 pub sub-below : (a b : ℕ) → a < b → subℕ a b ≡ negsuc (b - suc a)
 sub-below a b h = ap (λ (t : Bool). cond t (negsuc (b - suc a)) (pos (a - b))) (lt-ltb a b h)

@@ -9,12 +9,13 @@ use lib.IntN.{pos}
 use lib.Signed.{ltZ}
 use lib.ListN.{length, getD, set, length-set}
 use lib.Ieee.{Float, nan}
-use Rattle.laws.specs.Lists.{tab, filled, filled-more, tab-at}
-use Rattle.laws.specs.Whole.{modZ}
+use Rattle.laws.specs.Words.{tab}
+use Rattle.laws.specs.Laws.Lists.{filled, filled-more, tab-at}
+use Rattle.laws.specs.Words.{modZ}
 use Rattle.search.specs.declared.Coord.{Coord}
 use Rattle.search.specs.Record.{coordAt, noCoord}
 use Rattle.coord.specs.declared.Rows.{Rows}
-use Rattle.coord.specs.Rows.{coordIn, tableOf, regretsOf, distsOf, weightsOf, ranksOf, oddsOf, upsOf, rowsOf}
+use Rattle.coord.specs.Inner.Rows.{coordIn, tableOf, regretsOf, distsOf, weightsOf, ranksOf, oddsOf, upsOf, rowsOf}
 
 -- ---- one row: of its n places the first m hold f 0, f 1, ..
 pub record Upto (A : Type 0) (d : A) (f : ℕ → A) (n : ℕ) (xs : List A) (m : ℕ) : Type 0 where

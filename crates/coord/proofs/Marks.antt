@@ -5,16 +5,16 @@ use Prim.Native.Nat.{ℕ, suc, _+_, _*_, _-_, _/_, _<_, _≤_}
 use native.Mathlib.Omega.{arith}
 use lib.Dec.{ltb}
 use lib.IntN.{ℤ, subℕ}
-use Rattle.laws.specs.Whole.{sub-by}
+use Rattle.laws.specs.Laws.Whole.{sub-by}
 use Rattle.rank.specs.Laws.RankOrder.{rankBy, rank-is}
-use Rattle.rank.specs.Answers.{markOf}
+use Rattle.rank.specs.Answers.{reach, noRank, markOf}
 use Rattle.search.specs.Record.{member}
 use Rattle.coord.specs.Inner.{unbiased}
 use Rattle.coord.proofs.Numbers.{member-is}
 
 -- the mark of a rank
 abbrev pub marked : ℕ → ℕ
-marked r = cond (ltb r 8) r 15
+marked r = cond (ltb r reach) r noRank
 
 mark-by : (y : ℤ) (r : ℕ) → rankBy y ≡ r → markOf y ≡ marked r
 unfolding markOf

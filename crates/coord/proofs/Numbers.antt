@@ -5,7 +5,7 @@ use native.Mathlib.Omega.{arith}
 use lib.IntN.{ℤ, pos, negsuc, negℤ, natAbs, subℕ, _+ℤ_}
 use mir.Syntax.{w32}
 use mir.Val.{SFits}
-use Rattle.laws.specs.Whole.{sub-by}
+use Rattle.laws.specs.Laws.Whole.{sub-by}
 use Rattle.search.specs.Record.{member, slotK}
 use Rattle.coord.specs.Inner.{unbiased}
 use Rattle.coord.proofs.Differences.{sub-below, sub-above, sub-up, sub-down}

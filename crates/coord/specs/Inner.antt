@@ -1,5 +1,6 @@
 -- The forms in which this crate's private functions make a record: one slot of it by itself, and whole numbers counted from -1048576 on, so that
 -- they have no sign. Definitions only.
+pub mod Rows
 use Prim.Native.Nat.{ℕ}
 use lib.IntN.{ℤ, subℕ}
 use lib.Ieee.{Float}

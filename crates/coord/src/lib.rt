@@ -11,10 +11,10 @@ ghost use lib.Signed.{ltZ};
 ghost use lib.Dec.{ltb};
 ghost use lib.Ieee.{nan};
 ghost use Rattle.rank.specs.Vector as vector;
-ghost use Rattle.rank.specs.Answers.{markOf};
+ghost use Rattle.rank.specs.Answers.{reach, noRank, markOf};
 ghost use Rattle.float.specs.Calls.{rounded};
 ghost use Rattle.search.specs.Record.{member, coordFrom, coordOf, shrinks};
-ghost use Rattle.coord.specs.Rows.{coordIn, tableOf, rowsOf};
+ghost use Rattle.coord.specs.Inner.Rows.{coordIn, tableOf, rowsOf};
 ghost use Rattle.coord.specs.Inner.{unbiased, slotOf};
 use search::Coord;
 
@@ -42,9 +42,13 @@ pub struct Rows {
 
 // The mark of a rank: 15 where it is past the lookup's reach.
 fn mark(r: u32) -> u8
-    ensures { λ x. ⌜ (x ≡ cond (ltb r 8) r 15) × (x < 16) ⌝ }
+    ensures { λ x. ⌜ (x ≡ cond (ltb r reach) r noRank) × (x < 16) ⌝ }
 {
-    if r < 8 { r as u8 } else { 15 }
+    if r < rank::REACH {
+        r as u8
+    } else {
+        rank::NO_RANK as u8
+    }
 }
 
 // The rank mark of o + 4k: half the magnitude, the member above zero before the one as far below it.

@@ -2,6 +2,6 @@
 pub mod Promised
 pub mod Codes
 pub mod Scales
-pub mod Nearest
+pub mod Demand3
 -- their proof
 pub mod Laws

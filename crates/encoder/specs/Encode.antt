@@ -6,7 +6,7 @@ use Prim.Native.Nat.{ℕ}
 use lib.Dec.{eqb}
 use lib.IntN.{pos}
 use lib.Ieee.{Float, inf, binary64, mul, lt}
-use Rattle.laws.specs.Lists.{tab}
+use Rattle.laws.specs.Words.{tab}
 use Rattle.refusal.specs.Refusal.{outOfRange}
 use Rattle.tetra.specs.Encode.{encodeOf}
 use Rattle.float.specs.Value.{zero64}

@@ -6,11 +6,11 @@ ghost use mathlib.Core.Path.{_≡_};
 ghost use Prim.Native.Nat.{_+_, _<_, _≤_, ℕ};
 ghost use lib.ListN.{getD};
 ghost use lib.Ieee.{nan};
-ghost use Rattle.laws.specs.Lists.{tab};
+ghost use Rattle.laws.specs.Words.{tab};
 ghost use Rattle.rank.specs.Coord.{valOf};
 ghost use Rattle.search.specs.Entries.{sectionAt};
 ghost use Rattle.search.specs.Parity.{bothParities};
-ghost use Rattle.search.specs.Block.{trioOf, pointAt, pointFrom, winnerFor};
+ghost use Rattle.search.specs.Block.{trioOf, winnerAt, pointFrom, winnerFor};
 ghost use Rattle.encoder.specs.Encode.{zeroCode, codeOf, codeFor, encodeAtScale};
 ghost use Rattle.encoder.specs.Encode.{higher, twoScales, scaledBack, codeAt, encodeWith, encodeSamples};
 use score::Choice;
@@ -84,7 +84,7 @@ fn coordinate(p: u32, c: u8, key: u32, j: u32) -> i32
 // Coordinate j in trio order.
 fn in_trio(w: Winner, j: u32) -> i32
     requires { ⌜ j < 24 ⌝ }
-    ensures { λ r. ⌜ r ≡ pointAt w j ⌝ }
+    ensures { λ r. ⌜ r ≡ winnerAt w j ⌝ }
 {
     if j < 8 {
         return coordinate(w.p, w.s1.byte, w.s1.key, j);

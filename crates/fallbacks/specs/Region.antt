@@ -7,7 +7,7 @@ use Prim.Native.Nat.{ℕ, suc, _+_, _*_, _<_}
 use lib.ListN.{getD}
 use lib.IntN.{ℤ, pos, negsuc}
 use lib.Signed.{_<ℤ_}
-use Rattle.laws.specs.Lists.{tab}
+use Rattle.laws.specs.Words.{tab}
 use Rattle.rows.specs.Rows.{rows}
 use Rattle.search.specs.Tables.{tables, endByte, fallbackAt}
 use Rattle.search.specs.Entries.{sectionAt}

@@ -17,7 +17,7 @@ use lib.Ieee.Scale.{finite}
 use mir.Syntax.{w32}
 use mir.Val.{SFits, toZ, ofZ}
 use mir.ValLaws.{toZ-pos, toZ-ofZ}
-use Rattle.laws.specs.Tests.{true-is}
+use Rattle.laws.specs.Laws.Tests.{true-is}
 use Rattle.float.specs.Value.{U, magUnits, isMinus, posUnits, negUnits, zero64}
 use Rattle.float.specs.Calls.{halfUp, roundAway}
 use Rattle.float.specs.Laws.Exact.{has-value, Exactly, double-exactly, neg-exactly, neg-mag, mag-parts}

@@ -4,7 +4,7 @@ use mathlib.Core.List.{List}
 use Prim.Native.Nat.{ℕ, _<_}
 use lib.ListN.{length, getD}
 use lib.Ieee.{Float, nan, binary64, div}
-use Rattle.laws.specs.Lists.{filled}
+use Rattle.laws.specs.Laws.Lists.{filled}
 use Rattle.float.specs.Calls.{quotientsOf}
 use Rattle.float.specs.Laws.Arrays.{quotients-length, quotients-at}
 

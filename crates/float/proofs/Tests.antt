@@ -4,7 +4,7 @@ use mathlib.Core.Bool.{true, false, true≢false}
 use lib.Dec.{T}
 use lib.Ieee.{Float, nan, inf, fin, binary64, fits, lt, eq, neg}
 use lib.Ieee.Scale.{finite}
-use Rattle.laws.specs.Tests.{true-is}
+use Rattle.laws.specs.Laws.Tests.{true-is}
 use Rattle.float.specs.Value.{zero64}
 use Rattle.float.specs.Calls.{absOf}
 use Rattle.float.specs.Laws.Exact.{zero-fits, zero-mag, same-units}

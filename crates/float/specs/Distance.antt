@@ -3,7 +3,7 @@ use mathlib.Core.List.{List, [], _∷_}
 use Prim.Native.Nat.{ℕ, _+_, _*_, _^_}
 use lib.IntN.{ℤ}
 use lib.Ieee.{Float, binary64, sub, mul, ofInt}
-use Rattle.laws.specs.Whole.{posPart, negPart, gap}
+use Rattle.laws.specs.Words.{posPart, negPart, gap}
 use Rattle.float.specs.Value.{U, posUnits, negUnits}
 use Rattle.float.specs.Calls.{sumOf}
 

@@ -5,7 +5,8 @@ use mathlib.Core.List.{List}
 use Prim.Native.Nat.{ℕ, suc, _/_, _%_, _<_}
 use lib.ListN.{getD, set, replicate, length-replicate, getD-replicate}
 use lib.Ieee.{Float, nan, binary64, add, lt, le}
-use Rattle.laws.specs.Lists.{tab, filled}
+use Rattle.laws.specs.Words.{tab}
+use Rattle.laws.specs.Laws.Lists.{filled}
 use Rattle.search.specs.declared.Way.{Way}
 use Rattle.search.specs.declared.Bounds.{Bounds}
 use Rattle.search.specs.Tables.{tables}

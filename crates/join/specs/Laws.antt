@@ -1,57 +1,66 @@
--- The entries that a path runs through are entries: each number of the two tables is small, by one computed test each. Assumes nothing.
-use mathlib.Core.Path.{_≡_, refl}
+-- The entries that a path runs through, worked out, are those of the definition, and they are entries. Assumes nothing.
+use mathlib.Core.Path.{_≡_, _∙_, sym, ap, ap₂}
 use mathlib.Core.Bool.{Bool, true, false, cond}
 use mathlib.Core.List.{List}
 use Prim.Native.Nat.{ℕ, zero, suc, _+_, _*_, _/_, _%_, _<_, _≤_}
+use native.Mathlib.Nat.{mul-comm}
 use native.Mathlib.Omega.{arith}
-use lib.Dec.{T, ltb, ltb→lt}
 use lib.Ieee.{lt, le}
-use lib.ListN.{length, getD}
-use Rattle.laws.specs.Tables.{every, at}
+use lib.ListN.{getD}
+use lib.Bits.{bitXor}
 use Rattle.trellis.specs.Tables.{nexts}
+use Rattle.laws.specs.Laws.Lists.{tab-at}
+use Rattle.trellis.specs.Trellis.{nextOf, firstNexts}
+use Rattle.trellis.specs.Laws.Path.{row-at, next-lt}
+use Rattle.trellis.specs.Laws.Rows.{next-by}
 use Rattle.search.specs.declared.Way.{Way}
-use Rattle.search.specs.Tables.{branchEntries, tables}
+use Rattle.search.specs.Tables.{tables}
+use Rattle.search.specs.Laws.Tables.{entry-at}
 use Rattle.search.specs.Join.{Sides, entAt, midAt, lastAt, wayAt, rowTo, joinTo}
 
--- ---- the tables
-lessThan : ℕ → ℕ → ℕ → Bool
-lessThan n k x = ltb x n
-
-entries-length : length branchEntries ≡ 1024
-unfolding branchEntries
-entries-length = refl
-
-entries-less : T (every (lessThan 128) 0 branchEntries)
-unfolding lessThan branchEntries
-entries-less = tt
-
-states-length : length nexts ≡ 1024
-unfolding nexts
-states-length = refl
-
-states-less : T (every (lessThan 64) 0 nexts)
-unfolding lessThan nexts
-states-less = tt
-
--- what a branch reads: t / 2 is its number, i1 % 64 its state
-read-lt : (n : ℕ) (xs : List ℕ) → T (every (lessThan n) 0 xs) → length xs ≡ 1024 → (i1 t : ℕ) → t < 32
-    → getD xs (i1 % 64 * 16 + t / 2) 0 < n
-unfolding lessThan
-read-lt n xs h e i1 t ht =
-    ltb→lt (getD xs (i1 % 64 * 16 + t / 2) 0) n (at (lessThan n) xs h (i1 % 64 * 16 + t / 2) (omega arith))
-
-pub entry-lt : (xs : List ℕ) → xs ≡ branchEntries → (i1 t : ℕ) → t < 32 → getD xs (i1 % 64 * 16 + t / 2) 0 < 128
-entry-lt xs q = rw q (read-lt 128 branchEntries entries-less entries-length)
-
-pub state-lt : (xs : List ℕ) → xs ≡ nexts → (i1 t : ℕ) → t < 32 → getD xs (i1 % 64 * 16 + t / 2) 0 < 64
-state-lt xs q = rw q (read-lt 64 nexts states-less states-length)
-
 -- ---- the paths
+-- the middle entry: the entries of eight states in a row follow each other
+in-eight : (s q : ℕ) → q < 16 → (s * 16 + q) / 128 ≡ s / 8
+in-eight s q h = omega arith
+
+own : (s q : ℕ) → q < 16 → (s * 16 + q) % 16 ≡ q
+own s q h = omega arith
+
+both : (a t : ℕ) → 2 * (16 * a + t / 2) + t % 2 ≡ a * 32 + t
+both a t = omega arith
+
+pub mid-is : (i1 t : ℕ) → t < 32 → i1 % 64 / 8 * 32 + t ≡ midAt tables i1 t
+mid-is i1 t h =
+    let s = i1 % 64 in
+    let q : t / 2 < 16 = omega arith in
+    sym
+    (ap (λ (x : ℕ). 2 * x + t % 2) (entry-at (s * 16 + t / 2) (omega arith))
+    ∙ ap₂ (λ (x y : ℕ). 2 * (16 * x + y) + t % 2) (in-eight s (t / 2) q) (own s (t / 2) q) ∙ both (s / 8) t)
+
 pub mid-lt : (i1 t : ℕ) → t < 32 → midAt tables i1 t < 256
-mid-lt i1 t h = omega (arith, entry-lt branchEntries refl i1 t h)
+mid-lt i1 t h = rw (sym (mid-is i1 t h)) (omega arith)
+
+-- the state at cut 16 of branch b out of state s, at its place among all, and by the branches out of the first eight states
+branch-at : (s b : ℕ) → b < 16 → nextOf s b ≡ getD nexts (s * 16 + b) 0
+unfolding nextOf
+branch-at s b h = row-at 16 nexts s b h ∙ ap (λ (i : ℕ). getD nexts (i + b) 0) (mul-comm 16 s)
+
+first-at : (s b : ℕ) → s < 8 → b < 16 → getD firstNexts (s * 16 + b) 0 ≡ nextOf s b
+unfolding firstNexts
+first-at s b h k =
+    let q : (s * 16 + b) / 16 ≡ s = omega arith in
+    let r : (s * 16 + b) % 16 ≡ b = omega arith in
+    tab-at ℕ 0 (λ (i : ℕ). nextOf (i / 16) (i % 16)) 128 (s * 16 + b) (omega arith) ∙ ap₂ nextOf q r
+
+pub next-is : (xs : List ℕ) → xs ≡ firstNexts → (s b : ℕ) → s < 64 → b < 16
+    → bitXor (s / 8) (getD xs (s % 8 * 16 + b) 0) ≡ getD nexts (s * 16 + b) 0
+next-is xs q s b h k = rw q (ap (bitXor (s / 8)) (first-at (s % 8) b (omega arith) k) ∙ next-by s b h k ∙ branch-at s b k)
+
+pub next-at-lt : (s b : ℕ) → b < 16 → getD nexts (s * 16 + b) 0 < 64
+next-at-lt s b h = rw (sym (branch-at s b h)) (next-lt s b)
 
 pub last-lt : (p i1 t : ℕ) → t < 32 → lastAt tables p i1 t < 128
-last-lt p i1 t h = omega (arith, state-lt nexts refl i1 t h)
+last-lt p i1 t h = omega (arith, next-at-lt (i1 % 64) (t / 2) (omega arith))
 
 -- ---- the best path of a join
 abbrev pub InRange : Way → Type 0

@@ -1,12 +1,14 @@
 // The best path by the entries' values, and the best path through each entry: `join` and the pass over the paths of `solve_parity` of
-// encoder.rs. The inner functions read the entries' values from flat rows, and the two tables of branches by reference. Each of them says
-// what it computes of any entries that have these values.
+// encoder.rs. The inner functions read the entries' values from flat rows, and the states that the branches lead to by reference. Each of them
+// says what it computes of any entries that have these values.
 ghost use mathlib.Core.Path.{_≡_};
 ghost use mathlib.Core.Bool.{cond, _&&_};
-ghost use Prim.Native.Nat.{_<_, _%_};
+ghost use Prim.Native.Nat.{_<_, _+_, _*_, _%_};
 ghost use lib.Ieee.{lt, le};
+ghost use lib.ListN.{getD};
 ghost use Rattle.trellis.specs.Tables.{nexts};
-ghost use Rattle.search.specs.Tables.{branchEntries, tables};
+ghost use Rattle.trellis.specs.Trellis.{firstNexts};
+ghost use Rattle.search.specs.Tables.{tables};
 ghost use Rattle.search.specs.Join.{Sides, midAt, lastAt, entAt, rowTo, joinTo, join};
 ghost use Rattle.search.specs.Parity.{lower, boundsTo};
 ghost use Rattle.join.specs.Inner.{ValuesOf, ExactsOf, FieldsOf};
@@ -14,24 +16,36 @@ use search::Bounds;
 use search::Entry;
 use search::Way;
 
-mod tables;
-
-// The middle entry of path t out of end entry i1.
-fn mid_at(ix: &[u8; 1024], i1: usize, t: usize) -> usize
+// The middle entry of path t out of end entry i1: eight states in a row have the same sixteen branches, and there are two entries to a branch.
+fn mid_at(i1: usize, t: usize) -> usize
     requires { ⌜ t < 32 ⌝ }
-    requires { ⌜ now ix ≡ branchEntries ⌝ }
     ensures { λ r. ⌜ (r ≡ midAt tables i1 t) × (r < 256) ⌝ }
 {
-    2 * (ix[i1 % 64 * 16 + t / 2] as usize) + t % 2
+    i1 % 64 / 8 * 32 + t
 }
 
-// Its last entry, of class p xor r xor the middle class; r is i1 / 64.
-fn last_at(p: usize, nx: &[u8; 1024], i1: usize, t: usize) -> usize
+fn wide(x: u8) -> usize
+    ensures { λ r. ⌜ r ≡ x ⌝ }
+{
+    x as usize
+}
+
+// The state that branch b out of state s leads to, by those that the branches out of the first eight states lead to.
+fn next_at(nx: &[u8; 128], s: usize, b: usize) -> usize
+    requires { ⌜ (s < 64) × (b < 16) ⌝ }
+    requires { ⌜ now nx ≡ firstNexts ⌝ }
+    ensures { λ r. ⌜ (r ≡ getD nexts (s * 16 + b) 0) × (r < 64) ⌝ }
+{
+    wide(((s / 8) as u8) ^ nx[s % 8 * 16 + b])
+}
+
+// The last entry of a path, of class p xor r xor the middle class; r is i1 / 64.
+fn last_at(p: usize, nx: &[u8; 128], i1: usize, t: usize) -> usize
     requires { ⌜ (p < 2) × (t < 32) ⌝ }
-    requires { ⌜ now nx ≡ nexts ⌝ }
+    requires { ⌜ now nx ≡ firstNexts ⌝ }
     ensures { λ r. ⌜ (r ≡ lastAt tables p i1 t) × (r < 128) ⌝ }
 {
-    (p + i1 / 64 + t % 2) % 2 * 64 + (nx[i1 % 64 * 16 + t / 2] as usize)
+    (p + i1 / 64 + t % 2) % 2 * 64 + next_at(nx, i1 % 64, t / 2)
 }
 
 // ---- the entries' fields as flat rows
@@ -85,8 +99,7 @@ fn fields_of(e1: [Entry; 128], e2: [Entry; 256], e3: [Entry; 128]) -> Fields
 // The best of a way and the 32 paths out of end entry i1, replaced on strictly less.
 fn row(
     p: usize,
-    ix: &[u8; 1024],
-    nx: &[u8; 1024],
+    nx: &[u8; 128],
     v1: &[f64; 128],
     v2: &[f64; 256],
     v3: &[f64; 128],
@@ -94,13 +107,13 @@ fn row(
     way: Way,
 ) -> Way
     requires { ⌜ (p < 2) × (i1 < 128) ⌝ }
-    requires { ⌜ (now ix ≡ branchEntries) × (now nx ≡ nexts) ⌝ }
+    requires { ⌜ now nx ≡ firstNexts ⌝ }
     ensures { λ r. ⌜ ((s : Sides) → ValuesOf s (now (v1 .entry)) (now (v2 .entry)) (now (v3 .entry)) → r ≡ rowTo tables p s i1 way 32) ⌝ }
 {
     let a = v1[i1];
     let mut best = way;
     for t in 0..32usize {
-        let i2 = mid_at(ix, i1, t);
+        let i2 = mid_at(i1, t);
         let i3 = last_at(p, nx, i1, t);
         let cost = a + v2[i2] + v3[i3];
         if cost < best.cost {
@@ -113,8 +126,7 @@ fn row(
 // The same, but an end entry whose own value is no less than the best cost is passed over.
 fn entered(
     p: usize,
-    ix: &[u8; 1024],
-    nx: &[u8; 1024],
+    nx: &[u8; 128],
     v1: &[f64; 128],
     v2: &[f64; 256],
     v3: &[f64; 128],
@@ -122,28 +134,21 @@ fn entered(
     best: Way,
 ) -> Way
     requires { ⌜ (p < 2) × (i1 < 128) ⌝ }
-    requires { ⌜ (now ix ≡ branchEntries) × (now nx ≡ nexts) ⌝ }
+    requires { ⌜ now nx ≡ firstNexts ⌝ }
     ensures { λ r. ⌜ ((s : Sides) → ValuesOf s (now (v1 .entry)) (now (v2 .entry)) (now (v3 .entry))
         → r ≡ cond (le (best .cost) (entAt (s .e1) i1 .value)) best (rowTo tables p s i1 best 32)) ⌝ }
 {
     if v1[i1] >= best.cost {
         best
     } else {
-        row(p, ix, nx, v1, v2, v3, i1, best)
+        row(p, nx, v1, v2, v3, i1, best)
     }
 }
 
 // The best path out of the 128 end entries.
-fn best_way(
-    p: usize,
-    ix: &[u8; 1024],
-    nx: &[u8; 1024],
-    v1: &[f64; 128],
-    v2: &[f64; 256],
-    v3: &[f64; 128],
-) -> Way
+fn best_way(p: usize, nx: &[u8; 128], v1: &[f64; 128], v2: &[f64; 256], v3: &[f64; 128]) -> Way
     requires { ⌜ p < 2 ⌝ }
-    requires { ⌜ (now ix ≡ branchEntries) × (now nx ≡ nexts) ⌝ }
+    requires { ⌜ now nx ≡ firstNexts ⌝ }
     ensures { λ r. ⌜ ((s : Sides) → ValuesOf s (now (v1 .entry)) (now (v2 .entry)) (now (v3 .entry)) → r ≡ joinTo tables p s 128) ⌝ }
 {
     let mut best = Way {
@@ -153,7 +158,7 @@ fn best_way(
         i3: 0,
     };
     for i1 in 0..128usize {
-        best = entered(p, ix, nx, v1, v2, v3, i1, best);
+        best = entered(p, nx, v1, v2, v3, i1, best);
     }
     best
 }
@@ -162,13 +167,12 @@ fn best_way(
 pub fn join(p: u32, e1: [Entry; 128], e2: [Entry; 256], e3: [Entry; 128]) -> Way
     ensures { λ r. ⌜ (r ≡ join tables (p % 2) (record { e1 = e1; e2 = e2; e3 = e3 })) × ((r .i1 < 128) × ((r .i2 < 256) × (r .i3 < 128))) ⌝ }
 {
-    let ix = tables::branch_entries();
     let nx = trellis::nexts();
     let f = fields_of(e1, e2, e3);
     let v1 = f.v1;
     let v2 = f.v2;
     let v3 = f.v3;
-    best_way((p % 2) as usize, &ix, &nx, &v1, &v2, &v3)
+    best_way((p % 2) as usize, &nx, &v1, &v2, &v3)
 }
 
 // ---- the bounds
@@ -189,8 +193,7 @@ fn exact_cost(exact: bool, cost: f64, u: f64) -> f64
 // The pass over the 4,096 paths: each lowers the bound of its three entries.
 fn bounds_over(
     p: usize,
-    ix: &[u8; 1024],
-    nx: &[u8; 1024],
+    nx: &[u8; 128],
     v1: &[f64; 128],
     v2: &[f64; 256],
     v3: &[f64; 128],
@@ -200,7 +203,7 @@ fn bounds_over(
     u0: f64,
 ) -> Bounds
     requires { ⌜ p < 2 ⌝ }
-    requires { ⌜ (now ix ≡ branchEntries) × (now nx ≡ nexts) ⌝ }
+    requires { ⌜ now nx ≡ firstNexts ⌝ }
     ensures { λ r. ⌜ ((s : Sides) → ValuesOf s (now (v1 .entry)) (now (v2 .entry)) (now (v3 .entry))
         → ExactsOf s (now (x1 .entry)) (now (x2 .entry)) (now (x3 .entry)) → r ≡ boundsTo tables p s u0 4096) ⌝ }
 {
@@ -211,7 +214,7 @@ fn bounds_over(
     let mut b3 = [top; 128];
     for n in 0..4096usize {
         let i1 = n / 32;
-        let i2 = mid_at(ix, i1, n % 32);
+        let i2 = mid_at(i1, n % 32);
         let i3 = last_at(p, nx, i1, n % 32);
         let cost = v1[i1] + v2[i2] + v3[i3];
         u = exact_cost(x1[i1] & (x2[i2] & x3[i3]), cost, u);
@@ -226,7 +229,6 @@ fn bounds_over(
 pub fn bounds(p: u32, e1: [Entry; 128], e2: [Entry; 256], e3: [Entry; 128], u: f64) -> Bounds
     ensures { λ r. ⌜ r ≡ boundsTo tables (p % 2) (record { e1 = e1; e2 = e2; e3 = e3 }) u 4096 ⌝ }
 {
-    let ix = tables::branch_entries();
     let nx = trellis::nexts();
     let f = fields_of(e1, e2, e3);
     let v1 = f.v1;
@@ -235,5 +237,5 @@ pub fn bounds(p: u32, e1: [Entry; 128], e2: [Entry; 256], e3: [Entry; 128], u: f
     let x1 = f.x1;
     let x2 = f.x2;
     let x3 = f.x3;
-    bounds_over((p % 2) as usize, &ix, &nx, &v1, &v2, &v3, &x1, &x2, &x3, u)
+    bounds_over((p % 2) as usize, &nx, &v1, &v2, &v3, &x1, &x2, &x3, u)
 }

@@ -1,9 +1,4 @@
--- tests, tables and lists; order; whole numbers and bits: laws that more than one crate cites
-pub mod Tests
-pub mod Tables
-pub mod Trees
-pub mod Lists
-pub mod Filled
-pub mod Order
-pub mod Whole
-pub mod Bits
+-- the words that definitions use: what a reader has to believe
+pub mod Words
+-- laws that more than one crate cites
+pub mod Laws

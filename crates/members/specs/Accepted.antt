@@ -5,7 +5,7 @@ use Prim.Native.Nat.{ℕ, _*_, _≤_, _<_}
 use lib.ListN.{getD}
 use lib.Ieee.{Float, nan}
 use Rattle.float.specs.Value.{U, magUnits}
-use Rattle.nearest.specs.Demand3.{Target}
+use Rattle.nearest.specs.Nearest.{Target}
 
 -- `target`: 24 finite doubles. A double is `magUnits` units of 2 ^ -1074 in size, and 1 is U of them
 pub record Accepted (t : List Float) : Type 0 where

@@ -9,7 +9,7 @@ use native.Mathlib.Omega.{arith}
 use lib.ListN.{getD}
 use lib.IntN.{ℤ, pos, negsuc}
 use lib.Ieee.{Float}
-use Rattle.laws.specs.Lists.{tab}
+use Rattle.laws.specs.Words.{tab}
 use Rattle.rank.specs.Coord.{parityOf}
 use Rattle.float.specs.Distance.{sqDist, margin}
 use Rattle.tetra.specs.Lattice.{LatticePoint, HasWord}
@@ -18,7 +18,7 @@ use Rattle.tetra.specs.Demand2.{decodes}
 use Rattle.tetra.specs.Points.{at, all, point, P}
 use Rattle.search.specs.Parity.{bothParities}
 use Rattle.search.specs.Block.{winnerFor, pointFrom}
-use Rattle.nearest.specs.Demand3.{Target, doubles, Finds, nearest, nearest-full}
+use Rattle.nearest.specs.Nearest.{Target, doubles, Finds, nearest, nearest-full}
 use Rattle.nearest.specs.Laws.OnPoint.{on-target, alone}
 
 -- ---- the search finds a point that has a word at the point itself, whatever parities it goes through

@@ -22,10 +22,6 @@ small-fits (pos n) h = record { sfits = omega arith }
 small-fits (negsuc n) h = record { sfits = omega arith }
 
 -- below zero
-pub turned : (y : ℤ) → ltZ y (pos 0) ≡ true → pos 0 -ℤ y ≡ pos (natAbs y)
-turned (pos n) e = absurd (omega (arith, ltb-true n 0 e))
-turned (negsuc n) e = +ℤ-idl (pos (suc n))
-
 pub count-below : (num : ℕ) (y : ℤ) → ltZ y (pos 0) ≡ true → countOf num y ≡ pos 0 -ℤ pos (nearest (natAbs y * num) 256)
 count-below num (pos n) e = absurd (omega (arith, ltb-true n 0 e))
 count-below num (negsuc n) e = count-neg num n ∙ sym (+ℤ-idl (negℤ (pos (nearest (suc n * num) 256))))
@@ -35,10 +31,6 @@ minus-mag zero = omega arith
 minus-mag (suc n) = rw (+ℤ-idl (negsuc n)) (omega arith)
 
 -- not below zero
-pub upright : (y : ℤ) → ltZ y (pos 0) ≡ false → y ≡ pos (natAbs y)
-upright (pos n) e = refl
-upright (negsuc n) e = let z : _≡_ {A = ℕ} 0 1 = cc in absurd (omega arith)
-
 pub count-above : (num : ℕ) (y : ℤ) → ltZ y (pos 0) ≡ false → countOf num y ≡ pos (nearest (natAbs y * num) 256)
 count-above num (pos n) e = count-pos num n
 count-above num (negsuc n) e = let z : _≡_ {A = ℕ} 0 1 = cc in absurd (omega arith)

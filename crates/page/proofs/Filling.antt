@@ -6,7 +6,7 @@ use native.Mathlib.Omega.{arith}
 use lib.IntN.{ℤ}
 use lib.ListN.{length, getD, drop, drop-of-length-le}
 use lib.Seq.{sets}
-use Rattle.laws.specs.Lists.{drop-next, sets-append}
+use Rattle.laws.specs.Laws.Lists.{drop-next, sets-append}
 use Rattle.page.specs.Counts.{blockCounts, pageCounts}
 use Rattle.page.specs.Laws.Count.{block-length}
 

@@ -6,8 +6,8 @@ use native.Mathlib.Omega.{arith}
 use native.Mathlib.Numerals.{add-one}
 use lib.ListN.{length, getD, set, take, drop, replicate, length-set, take-append-drop, drop-of-length-le}
 use lib.Seq.{take-suc-set, drop-set-lt, drop-drop, length-take-le}
-use Rattle.laws.specs.Lists.{drop-next}
-use Rattle.page.specs.declared.line.Line.the-variants.{Good, Bad}
+use Rattle.laws.specs.Laws.Lists.{drop-next}
+use Rattle.text.specs.declared.line.Line.the-variants.{Good, Bad}
 use Rattle.page.specs.Answer.{Reading, page, malformed, parsedOf}
 use Rattle.page.specs.Reader.{wordLineAt, withWord, wordsAt}
 

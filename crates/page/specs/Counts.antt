@@ -8,14 +8,14 @@ use Rattle.tetra.specs.Tetra.{pointOf}
 abbrev pub nearest : ℕ → ℕ → ℕ
 nearest n d = (2 * n + d) / (2 * d)
 
--- z / d as the nearest whole number, a half away from zero: the magnitude is rounded, and the sign put back
-abbrev pub rounded : ℤ → ℕ → ℤ
-rounded (pos n) d = pos (nearest n d)
-rounded (negsuc n) d = negℤ (pos (nearest (suc n) d))
+-- z / d as the nearest whole number, a half away from zero: the magnitude is quotientBy, and the sign put back
+abbrev pub quotientBy : ℤ → ℕ → ℤ
+quotientBy (pos n) d = pos (nearest n d)
+quotientBy (negsuc n) d = negℤ (pos (nearest (suc n) d))
 
 -- a coordinate in counts: coordinate times num divided by 256
 unfoldable pub countOf : ℕ → ℤ → ℤ
-countOf num y = rounded (y *ℤ pos num) 256
+countOf num y = quotientBy (y *ℤ pos num) 256
 
 -- the 24 counts of a block
 unfoldable pub blockCounts : ℕ → ℕ → List ℤ

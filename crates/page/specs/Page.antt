@@ -3,11 +3,7 @@ use mathlib.Core.Path.{_≡_}
 use mathlib.Core.List.{List, [], _∷_, _++_}
 use Prim.Native.Nat.{ℕ, _^_, _<_, _≤_}
 use lib.ListN.{length, getD}
-use Rattle.page.specs.Text.{bytes, decimal, hex}
-
--- a line: its key, its value, LF
-abbrev pub line : List ℕ → List ℕ → List ℕ
-line key value = key ++ (value ++ bytes "\n")
+use Rattle.text.specs.Text.{bytes, line, decimal, hex}
 
 unfoldable pub formatLine : List ℕ
 formatLine = line (bytes "format=") (bytes "tetra-page")

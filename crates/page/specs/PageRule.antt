@@ -9,14 +9,15 @@ use lib.Dec.{ltb}
 use lib.IntN.{ℤ}
 use lib.ListN.{length, take, drop, length-append}
 use lib.Seq.{take-all, length-take-le}
-use Rattle.page.specs.Text.{bytes, decimal}
+use Rattle.text.specs.Text.{bytes, decimal}
+use Rattle.text.specs.Laws.Text.{decimal-fits}
+use Rattle.text.specs.Laws.Lines.{decimal-rule, step, taken}
 use Rattle.page.specs.Page.{Fit, Page, formatLine, numLine, countLine, wordLines, pageText}
 use Rattle.page.specs.Counts.{pageCounts}
-use Rattle.page.specs.Answer.{Reading, page, malformed, readOf, cellsOf}
+use Rattle.page.specs.Answer.{Reading, page, malformed, numberIn, wordsIn, countsIn, readOf, cellsOf}
 use Rattle.page.specs.Reader.{formatAt, wordsAt, countAt, numAt, readingOf}
-use Rattle.page.specs.Laws.Text.{decimal-fits}
-use Rattle.page.specs.Laws.Reader.{format-rule, decimal-rule}
-use Rattle.page.specs.Laws.Lines.{step, taken, words-back, words-only, lines-length, differ}
+use Rattle.page.specs.Laws.Reader.{format-rule}
+use Rattle.page.specs.Laws.Lines.{words-back, words-only, lines-length, differ}
 
 -- ---- each num and each list of words within the bounds have a page
 pub page-of : (num : ℕ) (words : List ℕ) → 1 ≤ num → num ≤ 65535 → length words ≤ 64 → Fit words → Page (pageText num words) num words
@@ -27,18 +28,18 @@ pub accepted : (text : List ℕ) (num : ℕ) (words : List ℕ) → Page text nu
 unfolding readingOf numAt countAt pageText numLine countLine
 accepted text num words p =
     ap readingOf (p .text-is)
-    ∙ step formatAt _ _ format-rule 0 refl (numLine num ++ (countLine (length words) ++ wordLines words)) (λ x t. numAt t)
-    ∙ step _ _ _ (decimal-rule (bytes "num=") 1 65535) num (p .num-least, p .num-most) (countLine (length words) ++ wordLines words) countAt
-    ∙ step _ _ _ (decimal-rule (bytes "count=") 0 64) (length words) (omega arith, p .count-most) (wordLines words) (wordsAt num)
+    ∙ step malformed formatAt _ _ format-rule 0 refl (numLine num ++ (countLine (length words) ++ wordLines words)) (λ x t. numAt t)
+    ∙ step malformed _ _ _ (decimal-rule (bytes "num=") 1 65535) num (p .num-least, p .num-most) (countLine (length words) ++ wordLines words) countAt
+    ∙ step malformed _ _ _ (decimal-rule (bytes "count=") 0 64) (length words) (omega arith, p .count-most) (wordLines words) (wordsAt num)
     ∙ words-back num words (p .words-fit)
 
 -- ---- from a reading to its page
 pub only-pages : (text : List ℕ) (num : ℕ) (words : List ℕ) → readingOf text ≡ page num words → Page text num words
 unfolding readingOf numAt countAt pageText numLine countLine
 only-pages text num words e =
-    let a = taken formatAt _ _ format-rule text (λ x t. numAt t) num words e in
-    let b = taken _ _ _ (decimal-rule (bytes "num=") 1 65535) (a .1) countAt num words (a .4) in
-    let c = taken _ _ _ (decimal-rule (bytes "count=") 0 64) (b .1) (wordsAt (b .0)) num words (b .4) in
+    let a = taken malformed formatAt _ _ format-rule text (λ x t. numAt t) (page num words) differ e in
+    let b = taken malformed _ _ _ (decimal-rule (bytes "num=") 1 65535) (a .1) countAt (page num words) differ (a .4) in
+    let c = taken malformed _ _ _ (decimal-rule (bytes "count=") 0 64) (b .1) (wordsAt (b .0)) (page num words) differ (b .4) in
     let d = words-only (b .0) (c .0) (c .1) num words (c .4) in
     record {
       num-least = omega (arith, b .2 .0, d .0);
@@ -119,27 +120,27 @@ module _ (text : List ℕ) (old : List ℤ) where
   -- 9 for a text that is no page
   pub on-no-page : ((num : ℕ) (words : List ℕ) → Page text num words → ⊥)
       → (readOf (readingOf text) (length old) ≡ record { number = 9; count = 0 }) × (cellsOf (readingOf text) old ≡ old)
-  unfolding readOf cellsOf
+  unfolding readOf cellsOf numberIn wordsIn countsIn
   on-no-page h = rw (one-reading text (readingOf text) malformed (reads text) h) (refl, refl)
 
   module _ (num : ℕ) (words : List ℕ) (p : Page text num words) where
     -- then 8 for a buffer that is too short
     pub on-short-buffer : length old < 24 * length words
         → (readOf (readingOf text) (length old) ≡ record { number = 8; count = 0 }) × (cellsOf (readingOf text) old ≡ old)
-    unfolding readOf cellsOf
+    unfolding readOf cellsOf numberIn wordsIn countsIn
     on-short-buffer h = rw (accepted text num words p, lt-ltb (length old) (24 * length words) h) (refl, refl)
 
     -- any other page gives its count of blocks and its counts, and the cells behind them stay
     pub on-page : 24 * length words ≤ length old
         → (readOf (readingOf text) (length old) ≡ record { number = 0; count = length words })
         × (cellsOf (readingOf text) old ≡ pageCounts num words ++ drop (24 * length words) old)
-    unfolding readOf cellsOf
+    unfolding readOf cellsOf numberIn wordsIn countsIn
     on-page h = rw (accepted text num words p, le-ltb (length old) (24 * length words) h) (refl, refl)
 
 -- 1,536 cells are room for every page
 pub always-room : (text : List ℕ) (cells : ℕ) → 1536 ≤ cells → (readOf (readingOf text) cells .number ≡ 0 → ⊥)
     → (readingOf text ≡ malformed) × (readOf (readingOf text) cells .number ≡ 9)
-unfolding readOf
+unfolding readOf numberIn wordsIn
 always-room text cells h = go (readingOf text) refl
   where
     go : (R : Reading) → readingOf text ≡ R → (readOf R cells .number ≡ 0 → ⊥) → (R ≡ malformed) × (readOf R cells .number ≡ 9)

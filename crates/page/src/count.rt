@@ -1,20 +1,11 @@
 // Words in counts: coordinate times num divided by 256, halves away from zero.
+use text::magnitude;
 ghost use mathlib.Core.Path.{_≡_};
-ghost use Prim.Native.Nat.{_+_, _*_, _^_, _<_, _≤_};
+ghost use Prim.Native.Nat.{_+_, _*_, _≤_};
 ghost use lib.ListN.{length, take};
 ghost use lib.IntN.{natAbs};
 ghost use lib.Seq.{sets};
 ghost use Rattle.page.specs.Counts.{nearest as Counts·nearest, countOf, blockCounts, pageCounts};
-
-// A number without its sign.
-pub(crate) fn magnitude(z: i32) -> u64
-    ensures { λ r. ⌜ (r ≡ natAbs z) × (r < 2 ^ 32) ⌝ }
-{
-    if z < 0 {
-        return (0 - (z as i64)) as u64;
-    }
-    z as u64
-}
 
 // A magnitude in counts, a half upward.
 fn nearest(m: u64, num: u32) -> u64
@@ -42,10 +33,8 @@ fn put_block(out: &mut [i32], at: usize, word: u64, num: u32)
     ensures { λ r. ⌜ now (out .exit) ≡ sets (now (out .entry)) at (blockCounts num word) ⌝ }
 {
     let point = tetra::decode(word);
-    let mut j: usize = 0;
-    while j < 24 {
+    for j in 0..24usize {
         out[at + j] = count_of(point[j], num);
-        j += 1;
     }
 }
 

@@ -1,11 +1,11 @@
 // The trace page: a text of words in, counts out.
 mod count;
 mod line;
-mod show;
 
-use line::Line;
-pub use show::Printed;
-pub use show::unpage;
+use refusal::NO_PAGE;
+use refusal::NO_ROOM;
+use text::Line;
+use text::decimal_line;
 ghost use mathlib.Core.Path.{_≡_};
 ghost use Prim.Native.Nat.{_≤_};
 ghost use lib.ListN.{length, replicate};
@@ -55,14 +55,14 @@ fn words_of(text: &[u8], num: u32, count: usize) -> Parsed
     let mut i: usize = 0;
     while i < count {
         let Line::Good(word, n) = line::word_line(&text[at..]) else {
-            return refused(9);
+            return refused(NO_PAGE);
         };
         words[i] = word;
         at += n;
         i += 1;
     }
     if at != text.len() {
-        return refused(9);
+        return refused(NO_PAGE);
     }
     Parsed {
         number: 0,
@@ -77,20 +77,20 @@ pub fn parse(text: &[u8]) -> Parsed
     ensures { λ r. ⌜ r ≡ parsedOf (readingOf (now (text .entry))) ⌝ }
 {
     let Line::Good(_, a) = line::format_line(text) else {
-        return refused(9);
+        return refused(NO_PAGE);
     };
     let s = &text[a..];
-    let Line::Good(num, b) = line::decimal_line(s, b"num=", 1, 65535) else {
-        return refused(9);
+    let Line::Good(num, b) = decimal_line(s, b"num=", 1, 65535) else {
+        return refused(NO_PAGE);
     };
     let t = &s[b..];
-    let Line::Good(count, c) = line::decimal_line(t, b"count=", 0, 64) else {
-        return refused(9);
+    let Line::Good(count, c) = decimal_line(t, b"count=", 0, 64) else {
+        return refused(NO_PAGE);
     };
     words_of(&t[c..], num as u32, count as usize)
 }
 
-// Reads a page into the buffer: 24 counts a block, from its start on. The buffer is written only once the whole text is
+// Reads a page into the buffer: 24 counts per block, from its start on. The buffer is written only once the whole text is
 // known to be a page and the buffer to have room for it.
 pub fn read(text: &[u8], out: &mut [i32]) -> PageRead
     ensures { λ r. ⌜ r ≡ readOf (readingOf (now (text .entry))) (length (now (out .entry))) ⌝ }
@@ -104,7 +104,7 @@ pub fn read(text: &[u8], out: &mut [i32]) -> PageRead
     let count = page.count;
     if out.len() < 24 * count {
         return PageRead {
-            number: 8,
+            number: NO_ROOM,
             count: 0,
         };
     }

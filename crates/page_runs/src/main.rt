@@ -33,7 +33,7 @@ fn print_number(key: &[u8], n: u64) {
     or_close(io::print_decimal(STDOUT_FILENO, n));
 }
 
-fn print(printed: page::Printed)
+fn print(printed: shown::Printed)
     requires { ⌜ printed .length ≤ 20672 ⌝ }
 {
     let n = printed.length;
@@ -47,7 +47,7 @@ fn answer(text: &[u8]) {
     print_number(b"number=", read.number as u64);
     print_number(b" count=", read.count as u64);
     or_close(io::write_all(STDOUT_FILENO, b"\n"));
-    print(page::unpage(text));
+    print(shown::unpage(text));
 }
 
 // What stands behind the last % is a text too.

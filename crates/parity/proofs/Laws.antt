@@ -7,8 +7,9 @@ use Prim.Native.Nat.{ℕ, _<_}
 use native.Mathlib.Omega.{arith}
 use lib.ListN.{getD, set}
 use lib.Ieee.{Float, nan, lt}
-use Rattle.laws.specs.Lists.{tab, tab-eq}
-use Rattle.laws.specs.Tests.{cond-same}
+use Rattle.laws.specs.Words.{tab}
+use Rattle.laws.specs.Laws.Lists.{tab-eq}
+use Rattle.laws.specs.Laws.Tests.{cond-same}
 use Rattle.search.specs.declared.Entry.{Entry}
 use Rattle.search.specs.declared.Way.{Way}
 use Rattle.search.specs.declared.Bounds.{Bounds}
@@ -17,7 +18,7 @@ use Rattle.search.specs.Entries.{Rule}
 use Rattle.search.specs.Join.{Sides, entAt, noEntry, join, allExact}
 use Rattle.search.specs.Parity.{Targets, Seed, solved1, solved2, solved3, starts, lower, seeded, seedBy, seedTo, boundsTo, closed, closing, parity}
 use Rattle.join.specs.Laws.{in-join}
-use Rattle.resolve.specs.Flat.{closedWith}
+use Rattle.resolve.specs.Inner.Flat.{closedWith}
 use Rattle.parity.specs.declared.Head.{Head}
 use Rattle.parity.specs.Inner.{firstStart, midStarts, lastStart, headBy, headOf, Kept, Resolved}
 use Rattle.parity.specs.Inner.{onceBy, againBy, seedsBy, closedBy, leftBy, bestOf, passOf}

@@ -4,16 +4,17 @@ use mathlib.Core.Bool.{cond}
 use mathlib.Core.List.{List}
 use Prim.Native.Nat.{ℕ}
 use lib.Ieee.{Float}
-use Rattle.laws.specs.Lists.{tab}
+use Rattle.laws.specs.Words.{tab}
 use Rattle.trellis.specs.Tables.{prefixes, suffixes}
+use Rattle.trellis.specs.Trellis.{pairsOf, middleSets}
 use Rattle.search.specs.declared.Entry.{Entry}
 use Rattle.search.specs.declared.Bounds.{Bounds}
 use Rattle.search.specs.declared.Winner.{Winner}
-use Rattle.search.specs.Tables.{tables, middleSets}
+use Rattle.search.specs.Tables.{tables}
 use Rattle.search.specs.Join.{Sides, join}
 use Rattle.search.specs.Parity.{fixed, lower, boundsTo, winnerOf}
 use Rattle.search.specs.Block.{ruleOf}
-use Rattle.resolve.specs.Flat.{Search, endWith, midWith, closedWith}
+use Rattle.resolve.specs.Inner.Flat.{Search, endWith, midWith, closedWith}
 use Rattle.parity.specs.declared.Head.{Head}
 use Rattle.parity.specs.Inner.{headOf, Kept, Resolved, onceBy, againBy, seedsBy, closedBy, leftBy, bestOf, passOf}
 
@@ -64,8 +65,8 @@ module _ (r1 r2 r3 : Resolved) where
 
 -- ---- over the rows of the three sections
 module _ (sol1 sol2 sol3 : Search) (fall1 fall3 : List Entry) (setting p : ℕ) (e1 e2 e3 : List Entry) (u : Float) where
-  pub passed : {pre sets suf : List ℕ} {n m : ℕ} {h l : Head} {a1 a2 a3 c1 c2 c3 f1 f2 f3 : List Entry} {x y : Float} {b : Bounds} {w : Winner}
-      → pre ≡ prefixes → sets ≡ middleSets → suf ≡ suffixes → n ≡ ruleOf setting .ends → m ≡ ruleOf setting .mids
+  pub passed : {pre suf : List (List ℕ)} {sets : List ℕ} {n m : ℕ} {h l : Head} {a1 a2 a3 c1 c2 c3 f1 f2 f3 : List Entry} {x y : Float} {b : Bounds} {w : Winner}
+      → pre ≡ pairsOf prefixes → sets ≡ middleSets → suf ≡ pairsOf suffixes → n ≡ ruleOf setting .ends → m ≡ ruleOf setting .mids
       → h ≡ headOf p (sidesOf e1 e2 e3)
       → a1 ≡ fixed e1 (h .i1) (endWith tables sol1 pre fall1 n (h .i1)) → a2 ≡ fixed e2 (h .i2) (midWith tables sol2 sets m (h .i2))
       → a3 ≡ fixed e3 (h .i3) (endWith tables sol3 suf fall3 n (h .i3))
@@ -77,9 +78,9 @@ module _ (sol1 sol2 sol3 : Search) (fall1 fall3 : List Entry) (setting p : ℕ) 
       → f2 ≡ tab (closedWith c2 (b .b2) (b .u) (midWith tables sol2 sets m)) 256
       → f3 ≡ tab (closedWith c3 (b .b3) (b .u) (endWith tables sol3 suf fall3 n)) 128
       → w ≡ winnerOf p (sidesOf f1 f2 f3) (join tables p (sidesOf f1 f2 f3))
-      → w ≡ passOf (endWith tables sol1 prefixes fall1 (ruleOf setting .ends)) (midWith tables sol2 middleSets (ruleOf setting .mids))
-      (endWith tables sol3 suffixes fall3 (ruleOf setting .ends)) p (keptOf e1 e2 e3 u)
-  passed {pre} {sets} {suf} {n} {m} qp qs qf qn qm hh h1 h2 h3 hx hl g1 g2 g3 hy hb k1 k2 k3 hw =
+      → w ≡ passOf (endWith tables sol1 (pairsOf prefixes) fall1 (ruleOf setting .ends)) (midWith tables sol2 middleSets (ruleOf setting .mids))
+      (endWith tables sol3 (pairsOf suffixes) fall3 (ruleOf setting .ends)) p (keptOf e1 e2 e3 u)
+  passed {pre} {suf} {sets} {n} {m} qp qs qf qn qm hh h1 h2 h3 hx hl g1 g2 g3 hy hb k1 k2 k3 hw =
       passed-by (endWith tables sol1 pre fall1 n) (midWith tables sol2 sets m) (endWith tables sol3 suf fall3 n) p e1 e2 e3 u
       hh h1 h2 h3 hx hl g1 g2 g3 hy hb k1 k2 k3 hw
       ∙ rw (qp, qs, qf, qn, qm)

@@ -5,7 +5,7 @@ use mathlib.Core.List.{List}
 use Prim.Native.Nat.{ℕ, _/_, _%_}
 use lib.ListN.{getD}
 use lib.Ieee.{Float}
-use Rattle.laws.specs.Lists.{tab}
+use Rattle.laws.specs.Words.{tab}
 use Rattle.search.specs.declared.Entry.{Entry}
 use Rattle.search.specs.declared.Way.{Way}
 use Rattle.search.specs.declared.Bounds.{Bounds}
@@ -14,7 +14,7 @@ use Rattle.search.specs.Tables.{tables}
 use Rattle.search.specs.Entries.{endStart, midStart}
 use Rattle.search.specs.Join.{Sides, join, allExact}
 use Rattle.search.specs.Parity.{fixed, lower, boundsTo, winnerOf}
-use Rattle.resolve.specs.Flat.{closedWith}
+use Rattle.resolve.specs.Inner.Flat.{closedWith}
 use Rattle.parity.specs.declared.Head.{Head}
 
 -- ---- the entries of a section as they start

@@ -9,14 +9,15 @@ ghost use mathlib.Core.Path.{_≡_};
 ghost use mathlib.Core.Bool.{cond};
 ghost use Prim.Native.Nat.{ℕ, _%_};
 ghost use lib.ListN.{getD};
-ghost use Rattle.laws.specs.Lists.{tab};
+ghost use Rattle.laws.specs.Words.{tab};
 ghost use Rattle.trellis.specs.Tables.{prefixes, suffixes};
-ghost use Rattle.search.specs.Tables.{tables, middleSets};
+ghost use Rattle.trellis.specs.Trellis.{pairsOf, middleSets};
+ghost use Rattle.search.specs.Tables.{tables};
 ghost use Rattle.search.specs.Join.{join};
 ghost use Rattle.search.specs.Parity as def;
 ghost use Rattle.search.specs.Block.{ruleOf};
-ghost use Rattle.solve.specs.Flat.{solveIn, pairIn};
-ghost use Rattle.resolve.specs.Flat.{endWith, midWith, startWith, midStartWith};
+ghost use Rattle.solve.specs.Inner.Flat.{solveIn, pairIn};
+ghost use Rattle.resolve.specs.Inner.Flat.{endWith, midWith, inARow, startWith, midStartWith};
 ghost use Rattle.parity.specs.Inner.{headOf, passOf, midStarts, lastStart};
 use search::Entry;
 use search::Winner;
@@ -34,16 +35,37 @@ struct Head {
 fn ends_of(setting: u32) -> usize
     ensures { λ r. ⌜ r ≡ ruleOf setting .ends ⌝ }
 {
-    if setting < 7 { setting as usize } else { 7 }
+    let n = setting as usize;
+    if n < search::END_SHRINKS {
+        n
+    } else {
+        search::END_SHRINKS
+    }
 }
 
 fn mids_of(setting: u32) -> usize
     ensures { λ r. ⌜ r ≡ ruleOf setting .mids ⌝ }
 {
-    if setting < 8 { setting as usize } else { 8 }
+    let n = setting as usize;
+    if n < search::SHRINKS {
+        n
+    } else {
+        search::SHRINKS
+    }
 }
 
 // ---- the entries as they start
+// The bytes of all states in a row, two to a state.
+fn in_a_row(bytes: &[[u8; 2]; 64]) -> [u8; 128]
+    ensures { λ r. ⌜ r ≡ inARow (now (bytes .entry)) ⌝ }
+{
+    let mut out = [0u8; 128];
+    for i in 0..128usize {
+        out[i] = bytes[i / 2][i % 2];
+    }
+    out
+}
+
 fn end_starts(
     g: &[f64; 128],
     d: &[f64; 640],
@@ -51,17 +73,18 @@ fn end_starts(
     k: &[u8; 640],
     o: &[u8; 128],
     v: &[bool; 128],
-    bytes: &[u8; 128],
+    bytes: &[[u8; 2]; 64],
     fall: [Entry; 128],
 ) -> [Entry; 128]
     ensures { λ r. ⌜ r ≡ tab (startWith
         (tab (λ (j : ℕ). pairIn (now (g .entry)) (now (d .entry)) (now (w .entry)) (now (k .entry)) (now (o .entry)) (now (v .entry))
-        (getD (now (bytes .entry)) j 0) (tables .class0) (tables .class1)) 128)
+        (getD (inARow (now (bytes .entry))) j 0) (tables .class0) (tables .class1)) 128)
         (now (bytes .entry)) fall) 128 ⌝ }
 {
     let b0 = resolve::class_bound(0);
     let b1 = resolve::class_bound(1);
-    let q = solve::pairs(g, d, w, k, o, v, bytes, b0, b1);
+    let row = in_a_row(bytes);
+    let q = solve::pairs(g, d, w, k, o, v, &row, b0, b1);
     resolve::ends(q, bytes, fall)
 }
 
@@ -185,14 +208,14 @@ fn pass(
 ) -> Winner
     ensures { λ r. ⌜ r ≡ passOf
         (endWith tables (solveIn (now (g1 .entry)) (now (d1 .entry)) (now (w1 .entry)) (now (k1 .entry)) (now (o1 .entry)) (now (v1 .entry)))
-        prefixes fall1 (ruleOf setting .ends))
+        (pairsOf prefixes) fall1 (ruleOf setting .ends))
         (midWith tables (solveIn (now (g2 .entry)) (now (d2 .entry)) (now (w2 .entry)) (now (k2 .entry)) (now (o2 .entry)) (now (v2 .entry)))
         middleSets (ruleOf setting .mids))
         (endWith tables (solveIn (now (g3 .entry)) (now (d3 .entry)) (now (w3 .entry)) (now (k3 .entry)) (now (o3 .entry)) (now (v3 .entry)))
-        suffixes fall3 (ruleOf setting .ends)) (p % 2) (record { sides = record { e1 = e1; e2 = e2; e3 = e3 }; u = u0 }) ⌝ }
+        (pairsOf suffixes) fall3 (ruleOf setting .ends)) (p % 2) (record { sides = record { e1 = e1; e2 = e2; e3 = e3 }; u = u0 }) ⌝ }
 {
     let pre = trellis::prefixes();
-    let sets = resolve::middle_sets();
+    let sets = trellis::middle_sets();
     let suf = trellis::suffixes();
     let n = ends_of(setting);
     let m = mids_of(setting);
@@ -239,7 +262,7 @@ fn last(
 ) -> Winner
     ensures { λ r. ⌜ r ≡ passOf
         (endWith tables (solveIn (now (g1 .entry)) (now (d1 .entry)) (now (w1 .entry)) (now (k1 .entry)) (now (o1 .entry)) (now (v1 .entry)))
-        prefixes fall1 (ruleOf setting .ends))
+        (pairsOf prefixes) fall1 (ruleOf setting .ends))
         (midWith tables (solveIn (now (g2 .entry)) (now (d2 .entry)) (now (w2 .entry)) (now (k2 .entry)) (now (o2 .entry)) (now (v2 .entry)))
         middleSets (ruleOf setting .mids))
         (def.solved3 tables (ruleOf setting) t3 (p % 2)) (p % 2)
@@ -303,7 +326,7 @@ fn middle(
 ) -> Winner
     ensures { λ r. ⌜ r ≡ passOf
         (endWith tables (solveIn (now (g1 .entry)) (now (d1 .entry)) (now (w1 .entry)) (now (k1 .entry)) (now (o1 .entry)) (now (v1 .entry)))
-        prefixes fall1 (ruleOf setting .ends))
+        (pairsOf prefixes) fall1 (ruleOf setting .ends))
         (def.solved2 tables (ruleOf setting) t2 (p % 2)) (def.solved3 tables (ruleOf setting) t3 (p % 2)) (p % 2)
         (record { sides = record { e1 = e1; e2 = midStarts t2 (p % 2); e3 = lastStart t3 (p % 2) }; u = u0 }) ⌝ }
 {
@@ -314,7 +337,7 @@ fn middle(
     let k2 = r.rank;
     let o2 = r.odd;
     let v2 = r.up;
-    let sets = resolve::middle_sets();
+    let sets = trellis::middle_sets();
     let e2 = mid_starts(&g2, &d2, &w2, &k2, &o2, &v2, &sets);
     last(
         p,

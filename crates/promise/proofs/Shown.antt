@@ -36,12 +36,12 @@ use Rattle.encoder.specs.Encode.{emptyCode, numberAt, encodeAtScale, numberOf, 
 use Rattle.encoder.specs.Numbers.{at-number, at-refused, number-is, is-refused}
 use Rattle.demands.specs.Promised.{Coded}
 use Rattle.demands.specs.Codes.{at-scale, samples}
-use Rattle.demands.specs.Nearest.{nearest-at-scale}
+use Rattle.demands.specs.Demand3.{nearest-at-scale}
 use Rattle.page.specs.declared.Parsed.{Parsed}
 use Rattle.page.specs.declared.PageRead.{PageRead}
-use Rattle.page.specs.declared.show.Printed.{Printed}
-use Rattle.page.specs.Answer.{Reading, page, malformed, parsedOf, readOf, cellsOf}
-use Rattle.page.specs.Shown.{printed, inArray}
+use Rattle.shown.specs.declared.Printed.{Printed}
+use Rattle.page.specs.Answer.{Reading, page, malformed, numberIn, wordsIn, countsIn, parsedOf, readOf, cellsOf}
+use Rattle.shown.specs.Shown.{printed, inArray}
 use Rattle.page.specs.Reader.{readingOf}
 use Rattle.page.specs.Page.{Page}
 use Rattle.page.specs.PageRule.{accepted, only-pages, reads, one-reading}
@@ -228,7 +228,7 @@ of-parse text r q =
 
 pub of-print : (text : List ℕ) (r : Printed) → r ≡ inArray (printed (readingOf text))
     → PrintsPages text r × PrintsRefusal text r
-unfolding printed
+unfolding printed numberIn wordsIn countsIn
 of-print text r q = (
   λ num words p. q ∙ ap (λ (a : Reading). inArray (printed a)) (accepted text num words p),
   λ h. q ∙ ap (λ (a : Reading). inArray (printed a)) (no-page text h),
@@ -238,7 +238,7 @@ pub of-page : (text : List ℕ) (old new : List ℤ) (r : PageRead) → r ≡ re
     → new ≡ cellsOf (readingOf text) old
     → ReadsPages text old new r
     × (RefusesNoPage text old new r × (RefusesShort text old new r × AcceptsPagesOnly text r))
-unfolding readOf
+unfolding readOf numberIn
 of-page text old new r q d = (
   λ num words p h. let a = on-page text old num words p h in (q ∙ a .0, d ∙ a .1),
   (

@@ -17,7 +17,7 @@
 --   the double nearest to an exact root        `NearestRoot`                          root/specs/Root
 --   a page: its text, its num and its words    `Page`                                 page/specs/Page
 --   its counts                                 `pageCounts`                           page/specs/Counts
---   what is printed, in an array               `blockTexts`, `refusedText`, `inArray` page/specs/Shown
+--   what is printed, in an array               `blockTexts`, `refusedText`, `inArray` shown/specs/Shown
 -- The structs of the answers (`Encoded`, `Code`, ..) stand in src/ of their crates.
 use mathlib.Core.Path.{_≡_}
 use mathlib.Core.Bool.{true, false}
@@ -43,10 +43,10 @@ use Rattle.encoder.specs.declared.Code.{Code}
 use Rattle.encoder.specs.Encode.{emptyCode}
 use Rattle.page.specs.declared.Parsed.{Parsed}
 use Rattle.page.specs.declared.PageRead.{PageRead}
-use Rattle.page.specs.declared.show.Printed.{Printed}
+use Rattle.shown.specs.declared.Printed.{Printed}
 use Rattle.page.specs.Page.{Page}
 use Rattle.page.specs.Counts.{pageCounts}
-use Rattle.page.specs.Shown.{blockTexts, refusedText, inArray}
+use Rattle.shown.specs.Shown.{blockTexts, refusedText, inArray}
 
 -- ---- WORDS (demand 2): `decode` of the word w answers y, `encode` of y answers e
 -- Every word decodes to the point that its fields define, and that is a lattice point that has a word.

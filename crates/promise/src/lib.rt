@@ -18,10 +18,10 @@ ghost use Rattle.promise.specs.Demands.{ReadsPages, RefusesNoPage, Refus
 use encoder::Code;
 use page::PageRead;
 use page::Parsed;
-use page::Printed;
 use root::Rooted;
 use score::Scales;
 use score::Scored;
+use shown::Printed;
 use tetra::Encoded;
 
 // A word's point, and what the point encodes to.
@@ -161,5 +161,5 @@ pub fn printed_page(text: &[u8]) -> Printed
     ensures { λ r. ⌜ PrintsPages (now (text .entry)) r ⌝ }
     ensures { λ r. ⌜ PrintsRefusal (now (text .entry)) r ⌝ }
 {
-    page::unpage(text)
+    shown::unpage(text)
 }

@@ -7,10 +7,11 @@ use native.Mathlib.Omega.{arith}
 use borrow.Author.Tests.{lt-ltb, le-ltb, ltb-true, eqb-true}
 use lib.Dec.{ltb, eqb}
 use lib.IntN.{ℤ}
-use Rattle.laws.specs.Whole.{modZ}
+use Rattle.laws.specs.Words.{modZ}
 use Rattle.rank.specs.Coord.{rankOf, valOf}
 use Rattle.rank.specs.Laws.Coord.{val-rank}
-use Rattle.rank.specs.Answers.{outOfRange, reach, rankedOf, numberOf, rankIn, lookupNumber, lookupRank}
+use Rattle.refusal.specs.Refusal.{outOfRange}
+use Rattle.rank.specs.Answers.{reach, rankedOf, rankedNumber, rankIn, lookupNumber, lookupRank}
 use Rattle.rank.specs.declared.Ranked.{Ranked}
 use Rattle.rank.specs.declared.Ranked.the-variants.{Rank, Nothing, Refused}
 
@@ -33,13 +34,13 @@ ranked-none o y ho n = rw (lt-ltb o 4 ho) (go (eqb (modZ y 4) o) refl (ltb (rank
 
 -- what is answered has the number and the rank that are promised
 pub promised : (o : ℕ) (y : ℤ) {a : Ranked} → rankedOf o y ≡ a
-    → (a ≡ rankedOf o y) × (numberOf a ≡ lookupNumber o) × (rankIn a ≡ lookupRank o y)
+    → (a ≡ rankedOf o y) × (rankedNumber a ≡ lookupNumber o) × (rankIn a ≡ lookupRank o y)
 unfolding rankedOf lookupNumber lookupRank
 promised o y e =
     let b = eqb (modZ y 4) o && ltb (rankOf y) reach in
-    (sym e, ap numberOf (sym e) ∙ number (ltb o 4) b, ap rankIn (sym e) ∙ rank (ltb o 4) b)
+    (sym e, ap rankedNumber (sym e) ∙ number (ltb o 4) b, ap rankIn (sym e) ∙ rank (ltb o 4) b)
   where
-    number : (a b : Bool) → numberOf (cond a (cond b (Rank (rankOf y)) Nothing) Refused) ≡ cond a 0 outOfRange
+    number : (a b : Bool) → rankedNumber (cond a (cond b (Rank (rankOf y)) Nothing) Refused) ≡ cond a 0 outOfRange
     number true true = refl
     number true false = refl
     number false b = refl

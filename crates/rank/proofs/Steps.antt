@@ -9,8 +9,8 @@ use borrow.Author.Tests.{ltb-true}
 use lib.Pow.{pow-pos, pow-add}
 use lib.Dec.{ltb}
 use lib.ListN.{length, getD, take, drop}
-use Rattle.laws.specs.Lists.{drop-next}
-use Rattle.laws.specs.Order.{pick3, lexLe}
+use Rattle.laws.specs.Laws.Lists.{drop-next}
+use Rattle.laws.specs.Words.{pick3, lexLe}
 use Rattle.rank.specs.Vector.{ranksBelow, sq, cost, kZero}
 use Rattle.rank.specs.Answers.{packedOf}
 

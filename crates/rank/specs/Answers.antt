@@ -1,4 +1,4 @@
--- What this crate's functions answer, for every input: number 0 where a call is accepted, document 01's number 7 where it is refused.
+-- What this crate's functions answer, for every input: number 0 where a call is accepted, `outOfRange` where it is refused.
 -- Assumes nothing.
 use mathlib.Core.Bool.{false, cond, _&&_}
 use mathlib.Core.List.{List, map}
@@ -6,7 +6,8 @@ use mathlib.Core.Option.{Option, none, some}
 use Prim.Native.Nat.{ℕ, _%_}
 use lib.Dec.{ltb, eqb}
 use lib.IntN.{ℤ, pos}
-use Rattle.laws.specs.Whole.{modZ}
+use Rattle.laws.specs.Words.{modZ}
+use Rattle.refusal.specs.Refusal.{outOfRange}
 use Rattle.rank.specs.Coord.{rankOf, valOf}
 use Rattle.rank.specs.Vector.{ranksBelow, class, cost, pack, within}
 use Rattle.rank.specs.declared.Valued.{Valued}
@@ -15,10 +16,6 @@ use Rattle.rank.specs.declared.Ranked.the-variants.{Rank, Nothing, Refus
 use Rattle.rank.specs.declared.Classed.{Classed}
 use Rattle.rank.specs.declared.Costed.{Costed}
 use Rattle.rank.specs.declared.Held.{Held}
-
--- the number of a residue or a rank out of range
-abbrev pub outOfRange : ℕ
-outOfRange = 7
 
 -- ---- val: the member of o + 4Z at the rank rho; refused where o is above 3 or the rank above 7
 unfoldable pub valuedOf : ℕ → ℕ → Valued
@@ -34,10 +31,10 @@ unfoldable pub rankedOf : ℕ → ℤ → Ranked
 rankedOf o y = cond (ltb o 4) (cond (eqb (modZ y 4) o && ltb (rankOf y) reach) (Rank (rankOf y)) Nothing) Refused
 
 -- document 01's number of each case, and the rank that it answers
-abbrev pub numberOf : Ranked → ℕ
-numberOf (Rank r) = 0
-numberOf Nothing = 0
-numberOf Refused = outOfRange
+abbrev pub rankedNumber : Ranked → ℕ
+rankedNumber (Rank r) = 0
+rankedNumber Nothing = 0
+rankedNumber Refused = outOfRange
 
 abbrev pub rankIn : Ranked → Option ℕ
 rankIn (Rank r) = some r

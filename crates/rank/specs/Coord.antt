@@ -5,7 +5,7 @@ use mathlib.Core.List.{List, [], _∷_}
 use Prim.Native.Nat.{ℕ, zero, suc, _+_, _*_, _/_, _%_}
 use lib.Dec.{eqb}
 use lib.IntN.{ℤ, pos, negsuc}
-use Rattle.laws.specs.Whole.{modZ, divZ}
+use Rattle.laws.specs.Words.{modZ, divZ}
 
 abbrev pub parityOf : ℤ → ℕ
 parityOf y = modZ y 2

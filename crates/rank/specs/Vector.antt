@@ -3,7 +3,7 @@ use mathlib.Core.Bool.{Bool, true, _&&_}
 use mathlib.Core.List.{List, [], _∷_}
 use Prim.Native.Nat.{ℕ, zero, suc, _+_, _*_, _/_, _%_, compare}
 use lib.Dec.{ltb}
-use Rattle.laws.specs.Order.{pick3, lexLe, lexLt}
+use Rattle.laws.specs.Words.{pick3, lexLe, lexLt}
 
 -- all ranks are below b
 unfoldable pub ranksBelow : ℕ → List ℕ → Bool

@@ -2,19 +2,19 @@
 ghost use mathlib.Core.Path.{_≡_};
 ghost use mathlib.Core.Bool.{true};
 ghost use Prim.Native.Nat.{_<_};
-ghost use Rattle.laws.specs.Order.{lexLe};
-ghost use Rattle.laws.specs.Whole.{modZ};
+ghost use Rattle.laws.specs.Words.{lexLe};
+ghost use Rattle.laws.specs.Words.{modZ};
 ghost use Rattle.rank.specs.Coord.{parityOf, bitOf, valOf};
 ghost use Rattle.rank.specs.Vector.{ranksBelow, kZero, boundCost, boundCut, middleCost, middleCut};
 ghost use Rattle.rank.specs.Vector as vector;
-ghost use Rattle.rank.specs.Answers.{valuedOf, rankedOf, numberOf, rankIn, lookupNumber, lookupRank, markOf};
+ghost use Rattle.rank.specs.Answers.{valuedOf, rankedOf, rankedNumber, rankIn, lookupNumber, lookupRank, markOf};
 ghost use Rattle.rank.specs.Answers.{classedOf, costedOf, heldOf, packedOf};
 
 // The ranks that rank_of looks at are those below this.
-const REACH: u32 = 8;
+pub const REACH: u32 = 8;
 
 // The rank mark that says none.
-const NO_RANK: u32 = 15;
+pub const NO_RANK: u32 = 15;
 
 // A packed rank has four bits: cost and contains take the ranks below this.
 const FOUR_BITS: u32 = 16;
@@ -84,7 +84,7 @@ pub fn val(o: u32, rho: u32) -> Valued
         }
     } else {
         Valued {
-            number: 7,
+            number: refusal::OUT_OF_RANGE,
             value: 0,
         }
     }
@@ -92,17 +92,15 @@ pub fn val(o: u32, rho: u32) -> Valued
 
 // The rank of `y` in o + 4Z; nothing where it is not in it or stands past the reach.
 pub fn rank_of(o: u32, y: i32) -> Ranked
-    ensures { λ r. ⌜ (r ≡ rankedOf o y) × (numberOf r ≡ lookupNumber o) × (rankIn r ≡ lookupRank o y) ⌝ }
+    ensures { λ r. ⌜ (r ≡ rankedOf o y) × (rankedNumber r ≡ lookupNumber o) × (rankIn r ≡ lookupRank o y) ⌝ }
 {
     if 4 <= o {
         return Ranked::Refused;
     }
-    let mut rho: u32 = 0;
-    while rho < REACH {
+    for rho in 0..REACH {
         if value_at(o, rho) == y {
             return Ranked::Rank(rho);
         }
-        rho += 1;
     }
     Ranked::Nothing
 }
@@ -158,12 +156,10 @@ pub struct Held {
 pub fn all_below(rho: [u32; 8], b: u32) -> bool
     ensures { λ r. ⌜ r ≡ ranksBelow b rho ⌝ }
 {
-    let mut j: usize = 0;
-    while j < 8 {
+    for j in 0..8usize {
         if b <= rho[j] {
             return false;
         }
-        j += 1;
     }
     true
 }
@@ -174,10 +170,8 @@ fn sum_of_k(rho: [u32; 8]) -> u32
     ensures { λ r. ⌜ r ≡ kZero rho ⌝ }
 {
     let mut sum: u32 = 0;
-    let mut j: usize = 0;
-    while j < 8 {
+    for j in 0..8usize {
         sum = sum + (rho[j] + 1) / 2;
-        j += 1;
     }
     sum
 }
@@ -193,7 +187,7 @@ pub fn rank_class(rho: [u32; 8]) -> Classed
         }
     } else {
         Classed {
-            number: 7,
+            number: refusal::OUT_OF_RANGE,
             class: 0,
         }
     }
@@ -205,11 +199,9 @@ fn weigh(rho: [u32; 8]) -> u32
     ensures { λ r. ⌜ r ≡ vector.cost rho ⌝ }
 {
     let mut sum: u32 = 0;
-    let mut j: usize = 0;
-    while j < 8 {
+    for j in 0..8usize {
         let m = 2 * rho[j] + 1;
         sum = sum + m * m;
-        j += 1;
     }
     sum
 }
@@ -224,7 +216,10 @@ pub fn cost(rho: [u32; 8]) -> Costed
             cost: weigh(rho),
         }
     } else {
-        Costed { number: 7, cost: 0 }
+        Costed {
+            number: refusal::OUT_OF_RANGE,
+            cost: 0,
+        }
     }
 }
 
@@ -233,10 +228,8 @@ pub fn pack(rho: [u32; 8]) -> u32
     ensures { λ r. ⌜ r ≡ packedOf rho ⌝ }
 {
     let mut row: u32 = 0;
-    let mut j: u32 = 0;
-    while j < 8 {
+    for j in 0..8u32 {
         row = row | ((rho[j as usize] & 15) << (4 * j));
-        j += 1;
     }
     row
 }
@@ -246,10 +239,8 @@ pub fn unpack(row: u32) -> [u32; 8]
     ensures { λ r. ⌜ r ≡ vector.unpack 8 row ⌝ }
 {
     let mut rho = [0u32; 8];
-    let mut j: u32 = 0;
-    while j < 8 {
+    for j in 0..8u32 {
         rho[j as usize] = (row >> (4 * j)) & 15;
-        j += 1;
     }
     rho
 }
@@ -308,7 +299,7 @@ impl Bound {
             }
         } else {
             Held {
-                number: 7,
+                number: refusal::OUT_OF_RANGE,
                 held: false,
             }
         }

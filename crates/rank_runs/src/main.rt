@@ -20,17 +20,13 @@ fn part(label: &[u8], n: u32) {
     or_close(io::print_decimal(1, n as u64));
 }
 
-fn magnitude(n: i32) -> u32 {
-    if n < 0 { (-1 - n) as u32 + 1 } else { n as u32 }
-}
-
 // A number with its sign after a label.
 fn signed_part(label: &[u8], n: i32) {
     text(label);
     if n < 0 {
         text(b"-");
     }
-    or_close(io::print_decimal(1, magnitude(n) as u64));
+    or_close(io::print_decimal(1, text::magnitude(n)));
 }
 
 fn ranks(rho: [u32; 8]) {

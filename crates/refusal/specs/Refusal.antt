@@ -37,13 +37,13 @@ abbrev pub noRoom : ℕ
 noRoom = 8
 
 -- a text is no page
-abbrev pub malformed : ℕ
-malformed = 9
+abbrev pub noPage : ℕ
+noPage = 9
 
 -- ---- all of them
 abbrev pub numbers : List ℕ
 numbers =
-    notFinite ∷ tooLarge ∷ noScale ∷ tooFar ∷ noWord ∷ tooWide ∷ outOfRange ∷ noRoom ∷ malformed ∷ []
+    notFinite ∷ tooLarge ∷ noScale ∷ tooFar ∷ noWord ∷ tooWide ∷ outOfRange ∷ noRoom ∷ noPage ∷ []
 
 -- they are the numbers of document 01, from 1 on, so no two reasons share one
 pub from-one : numbers ≡ 1 ∷ 2 ∷ 3 ∷ 4 ∷ 5 ∷ 6 ∷ 7 ∷ 8 ∷ 9 ∷ []

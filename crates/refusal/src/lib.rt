@@ -28,7 +28,7 @@ pub const OUT_OF_RANGE: u32 = 7;
 pub const NO_ROOM: u32 = 8;
 
 // A text is no page.
-pub const MALFORMED: u32 = 9;
+pub const NO_PAGE: u32 = 9;
 
 // All of them, from 1 on. The contract holds these constants to the definitions, so that neither can be changed alone.
 pub fn numbers() -> [u32; 9]
@@ -43,6 +43,6 @@ pub fn numbers() -> [u32; 9]
         TOO_WIDE,
         OUT_OF_RANGE,
         NO_ROOM,
-        MALFORMED,
+        NO_PAGE,
     ]
 }

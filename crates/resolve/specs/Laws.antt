@@ -1,35 +1,42 @@
 -- The flat forms are the definition. Assumes nothing.
-use mathlib.Core.Path.{_≡_, refl, _∙_, sym, ap, ap₂}
+use mathlib.Core.Path.{_≡_, refl, _∙_, ap, ap₂, subst}
 use mathlib.Core.Bool.{Bool, true, false, cond, _&&_, not}
 use mathlib.Core.List.{List}
-use Prim.Native.Nat.{ℕ, zero, suc, _+_, _*_, _/_, _%_, _<_, _≤_}
+use Prim.Native.Nat.{ℕ, zero, suc, _+_, _*_, _/_, _%_, _^_, _<_, _≤_}
+use native.Mathlib.Nat.{mod-lt, zero-lt-suc}
 use native.Mathlib.Omega.{arith}
-use lib.IntN.{ℤ, pos}
 use lib.ListN.{length, getD}
-use lib.Dec.{eqb}
-use lib.Ieee.{Float, lt}
-use Rattle.laws.specs.Lists.{tab, tab-at, tab-eq}
-use Rattle.laws.specs.Tests.{cond-same, cond-ap}
+use lib.Dec.{T, eqb}
+use lib.Ieee.{Float, nan, binary64, add, sub, mul, lt, ofInt}
+use Rattle.laws.specs.Words.{tab}
+use Rattle.laws.specs.Laws.Lists.{tab-at, tab-eq}
+use Rattle.laws.specs.Laws.Tables.{every, at}
+use Rattle.laws.specs.Laws.Tests.{cond-same}
+use Rattle.rank.specs.Coord.{valOf}
+use Rattle.rank.specs.Vector.{ranksBelow, unpack}
+use Rattle.rank.specs.Laws.Vector.{below-at, unpack-at, unpack-length}
 use Rattle.trellis.specs.Tables.{prefixes, suffixes}
+use Rattle.trellis.specs.Trellis.{pairsOf}
+use Rattle.trellis.specs.Laws.Rows.{pair-at}
 use Rattle.search.specs.declared.Best.{Best}
 use Rattle.search.specs.declared.Closed.{Closed}
-use Rattle.search.specs.declared.Now.{Now}
+use Rattle.search.specs.declared.Candidate.{Candidate}
 use Rattle.search.specs.declared.Entry.{Entry}
 use Rattle.search.specs.declared.Found.the-variants.{At, Nothing}
-use Rattle.search.specs.Record.{row}
+use Rattle.search.specs.Record.{bitAt, sqTo, row}
 use Rattle.search.specs.Base.{baseNow, baseBest}
 use Rattle.search.specs.Solve.{solve, infinity, foundOf}
 use Rattle.search.specs.Tables.{tables, classOf, endByte, fallbackAt, fallbackBytes, fallbackKeys}
-use Rattle.search.specs.Entries.{Rule, sectionAt, distTo, infeasible, fallback, better, endResolve, midOf, midResolve}
+use Rattle.search.specs.Entries.{Rule, rankAt, sectionAt, distTo, infeasible, fallback, better, endResolve, midOf, midResolve}
 use Rattle.search.specs.Entries.{Start, settle, endStart, midStart}
 use Rattle.search.specs.Join.{noEntry}
-use Rattle.coord.specs.Rows.{tableOf, regretsOf, distsOf, weightsOf, ranksOf, oddsOf, upsOf}
+use Rattle.coord.specs.Inner.Rows.{tableOf, regretsOf, distsOf, weightsOf, ranksOf, oddsOf, upsOf}
 use Rattle.solve.specs.declared.Pair.{Pair}
-use Rattle.solve.specs.Flat.{pairIn}
+use Rattle.solve.specs.Inner.Flat.{pairIn}
 use Rattle.solve.specs.Laws.{pair-flat}
-use Rattle.resolve.specs.Flat.{Search, betterBy, midBy, endOver, endWith, midOver, midWith, fallbackIn}
-use Rattle.resolve.specs.Flat.{noBest, pairAt, ofParity, loweredBy, startOver, startWith, baseEntry, midStartWith}
-use Rattle.resolve.specs.Inner.{pointsFrom, point-at}
+use Rattle.resolve.specs.Inner.Flat.{Search, betterBy, midBy, byteIn, endOver, endWith, midOver, midWith}
+use Rattle.resolve.specs.Inner.Flat.{memberAt, membersOf, squareAt, squaresOf, squarePlace, sumTo, fallbackIn, inARow}
+use Rattle.resolve.specs.Inner.Flat.{noBest, pairAt, ofParity, loweredBy, startOver, startWith, baseEntry, midStartWith}
 
 -- ---- what a search answered
 pub better-by : (e : Entry) (b : Best) (c : ℕ) → betterBy e (foundOf b) c ≡ better e b c
@@ -50,34 +57,57 @@ mid-by b c = go (b .met)
     go false = refl
 
 -- ---- the fallbacks
-dist-eq : (f g : ℕ → ℤ) (ts : List Float) (n : ℕ) → ((j : ℕ) → j < n → f j ≡ g j) → distTo f ts n ≡ distTo g ts n
-unfolding distTo
-dist-eq f g ts zero h = refl
-dist-eq f g ts (suc n) h = rw (dist-eq f g ts n (λ j l. h j (omega arith)), h n (omega arith))
+-- the place of a square says its coordinate, and the bit and the rank of its member
+spot : (j b r : ℕ) → j < 8 → b < 2 → r < 4
+    → (8 * j + 4 * b + r % 4 < 64) × ((8 * j + 4 * b + r % 4) / 8 ≡ j) × ((8 * j + 4 * b + r % 4) % 8 / 4 ≡ b)
+    × ((8 * j + 4 * b + r % 4) % 8 % 4 ≡ r)
+spot j b r h k l = (omega arith, omega arith, omega arith, omega arith)
 
-bytes-length : length fallbackBytes ≡ 512
-unfolding fallbackBytes
-bytes-length = refl
+square-is : (ts : List Float) (p c key j : ℕ) → j < 8 → rankAt key j < 4
+    → getD (squaresOf (membersOf p) ts) (squarePlace c key j) nan ≡ sqTo (sectionAt p c key j) (getD ts j nan)
+unfolding squaresOf membersOf
+square-is ts p c key j h l =
+    let i = squarePlace c key j in
+    let q = spot j (bitAt c j) (rankAt key j) h (mod-lt (c / 2 ^ j) (zero-lt-suc 1)) l in
+    tab-at Float nan (squareAt (tab (memberAt p) 8) ts) 64 i (q .0)
+    ∙ ap₂ (λ (m t : Float). mul binary64 (sub binary64 m t) (sub binary64 m t))
+    (tab-at Float nan (memberAt p) 8 (i % 8) (mod-lt i (zero-lt-suc 7))
+    ∙ ap₂ (λ (b r : ℕ). ofInt binary64 (valOf (p + 2 * b) r)) (q .2) (q .3))
+    (ap (λ (n : ℕ). getD ts n nan) (q .1))
+
+sum-is : (ts : List Float) (p c key : ℕ) → ((j : ℕ) → j < 8 → rankAt key j < 4) → (n : ℕ) → n ≤ 8
+    → sumTo (squaresOf (membersOf p) ts) c key n ≡ distTo (sectionAt p c key) ts n
+unfolding sumTo distTo
+sum-is ts p c key low zero h = refl
+sum-is ts p c key low (suc n) h =
+    ap₂ (add binary64) (sum-is ts p c key low n (omega arith)) (square-is ts p c key n (omega arith) (low n (omega arith)))
+
+-- the ranks of the fallbacks, by one computed test
+small : ℕ → ℕ → Bool
+small i key = ranksBelow 4 (unpack 8 key)
+
+all-small : T (every small 0 fallbackKeys)
+unfolding small ranksBelow fallbackKeys
+all-small = tt
 
 keys-length : length fallbackKeys ≡ 512
 unfolding fallbackKeys
 keys-length = refl
 
--- the points are the sections of the bytes and packed rows
-dist-at : (ts : List Float) (p n : ℕ) → n < 512 → (0 + n) / 128 % 2 ≡ p
-    → distTo (λ (j : ℕ). getD (pointsFrom 0 fallbackBytes fallbackKeys) (8 * n + j) (pos 0)) ts 8
-    ≡ distTo (sectionAt p (getD fallbackBytes n 0) (getD fallbackKeys n 0)) ts 8
-dist-at ts p n h q = dist-eq _ _ ts 8
-    (λ j l. point-at 0 fallbackBytes fallbackKeys n j (omega (arith, bytes-length)) (omega (arith, keys-length)) l
-    ∙ ap (λ (r : ℕ). sectionAt r (getD fallbackBytes n 0) (getD fallbackKeys n 0) j) q)
+rank-small : (i : ℕ) → i < 512 → (j : ℕ) → j < 8 → rankAt (getD fallbackKeys i 0) j < 4
+unfolding small
+rank-small i h j l =
+    let key = getD fallbackKeys i 0 in
+    subst (λ (r : ℕ). r < 4) (unpack-at 8 key j l)
+    (below-at 4 (unpack 8 key) (at small fallbackKeys all-small i (omega (arith, keys-length))) j (omega (arith, unpack-length 8 key)))
 
 -- place i of the 128 fallbacks of an end and a parity
 pub fallback-flat : (ts : List Float) (kind p i : ℕ) → kind < 2 → p < 2 → i < 128
-    → fallbackIn fallbackBytes fallbackKeys (pointsFrom 0 fallbackBytes fallbackKeys) ts ((kind * 2 + p) * 128 + i)
-    ≡ fallback tables ts kind p (i / 64) (i % 64)
+    → fallbackIn fallbackBytes fallbackKeys (squaresOf (membersOf p) ts) ((kind * 2 + p) * 128 + i) ≡ fallback tables ts kind p (i / 64) (i % 64)
 fallback-flat ts kind p i hk hp hi =
-    let q : (kind * 2 + p) * 128 + i ≡ fallbackAt kind p (i / 64) (i % 64) = omega arith in
-    rw (q, dist-at ts p (fallbackAt kind p (i / 64) (i % 64)) (omega arith) (omega arith))
+    let n = fallbackAt kind p (i / 64) (i % 64) in
+    let q : (kind * 2 + p) * 128 + i ≡ n = omega arith in
+    rw (q, sum-is ts p (getD fallbackBytes n 0) (getD fallbackKeys n 0) (rank-small n (omega arith)) 8 (omega arith))
 
 -- ---- as they start
 -- two bases, whose order in the three parts does not matter
@@ -107,14 +137,28 @@ start-over f b0 c0 b1 c1 = ap settle (go (b0 .met) (b1 .met))
     go false false = refl
 
 -- ---- the bytes and the fallbacks of an end
-abbrev pub bytesOf : ℕ → List ℕ
-bytesOf kind = cond (eqb kind 0) prefixes suffixes
+abbrev pub bytesOf : ℕ → List (List ℕ)
+bytesOf kind = cond (eqb kind 0) (pairsOf prefixes) (pairsOf suffixes)
 
-byte-at : (kind st b : ℕ) → getD (bytesOf kind) (2 * st + b) 0 ≡ endByte tables kind st b
-byte-at kind st b = sym (cond-ap (List ℕ) ℕ (λ (l : List ℕ). getD l (2 * st + b) 0) (eqb kind 0) prefixes suffixes)
+byte-at : (kind st b : ℕ) → st < 64 → b < 2 → byteIn (bytesOf kind) st b ≡ endByte tables kind st b
+byte-at kind st b h k = go (eqb kind 0)
+  where
+    go : (t : Bool) → byteIn (cond t (pairsOf prefixes) (pairsOf suffixes)) st b ≡ cond t (getD prefixes (2 * st + b) 0) (getD suffixes (2 * st + b) 0)
+    go true = pair-at prefixes st b h k
+    go false = pair-at suffixes st b h k
 
-first-byte : (kind st : ℕ) → getD (bytesOf kind) (2 * st) 0 ≡ endByte tables kind st 0
-first-byte kind st = let q : 2 * st ≡ 2 * st + 0 = omega arith in ap (λ (k : ℕ). getD (bytesOf kind) k 0) q ∙ byte-at kind st 0
+row-byte : (kind st b : ℕ) → st < 64 → b < 2 → getD (inARow (bytesOf kind)) (2 * st + b) 0 ≡ endByte tables kind st b
+unfolding inARow
+row-byte kind st b h k =
+    let s : (2 * st + b) / 2 ≡ st = omega arith in
+    let d : (2 * st + b) % 2 ≡ b = omega arith in
+    tab-at ℕ 0 (λ (i : ℕ). byteIn (bytesOf kind) (i / 2) (i % 2)) 128 (2 * st + b) (omega arith) ∙ ap₂ (byteIn (bytesOf kind)) s d
+    ∙ byte-at kind st b h k
+
+row-first : (kind st : ℕ) → st < 64 → getD (inARow (bytesOf kind)) (2 * st) 0 ≡ endByte tables kind st 0
+row-first kind st h =
+    let q : 2 * st ≡ 2 * st + 0 = omega arith in
+    ap (λ (k : ℕ). getD (inARow (bytesOf kind)) k 0) q ∙ row-byte kind st 0 h (omega arith)
 
 abbrev pub fallbacksOf : List Float → ℕ → ℕ → List Entry
 fallbacksOf ts kind p = tab (λ (i : ℕ). fallback tables ts kind p (i / 64) (i % 64)) 128
@@ -134,10 +178,10 @@ module _ (rule : Rule) (ts : List Float) (p : ℕ) (sol : Search) (h : Searches 
   end-with kind i l hi =
       let fall = tab-at Entry noEntry (λ (k : ℕ). fallback tables ts kind p (k / 64) (k % 64)) 128 i hi in
       ap
-      (λ (f : Entry). endOver tables sol f (i / 64) (getD (bytesOf kind) (2 * (i % 64)) 0) (getD (bytesOf kind) (2 * (i % 64) + 1) 0) (rule .ends))
+      (λ (f : Entry). endOver tables sol f (i / 64) (byteIn (bytesOf kind) (i % 64) 0) (byteIn (bytesOf kind) (i % 64) 1) (rule .ends))
       fall
       ∙ (ap₂ (λ (a b : ℕ). endOver tables sol (fallback tables ts kind p (i / 64) (i % 64)) (i / 64) a b (rule .ends))
-      (first-byte kind (i % 64)) (byte-at kind (i % 64) 1)
+      (byte-at kind (i % 64) 0 (omega arith) (omega arith)) (byte-at kind (i % 64) 1 (omega arith) (omega arith))
       ∙ end-over (fallback tables ts kind p (i / 64) (i % 64)) (i / 64) (endByte tables kind (i % 64) 0) (endByte tables kind (i % 64) 1)
       (rule .ends) l)
 
@@ -167,7 +211,7 @@ bases ts p b0 b1 bytes k l =
     (oddsOf (tableOf ts p)) (upsOf (tableOf ts p)) (getD bytes i 0) b0 b1) 128 k l
     ∙ pair-flat ts p (getD bytes k 0) b0 b1
 
-parity-of : (b0 b1 : Closed) (f : ℕ → Now) (r : ℕ) → r < 2
+parity-of : (b0 b1 : Closed) (f : ℕ → Candidate) (r : ℕ) → r < 2
     → ofParity (record { even = baseBest b0 (f 0); odd = baseBest b1 (f 1) }) r ≡ baseBest (cond (eqb r 0) b0 b1) (f r)
 parity-of b0 b1 f zero l = refl
 parity-of b0 b1 f (suc zero) l = refl
@@ -180,26 +224,28 @@ module _ (ts : List Float) (p : ℕ) where
       ap (λ (x : Pair). ofParity x r) (h k l) ∙ (parity-of b0 b1 (λ (s : ℕ). baseNow (row ts p (getD bytes k 0) 0) s) r hr
       ∙ ap (λ (x : ℕ). baseBest (cond (eqb r 0) b0 b1) (baseNow (row ts p x 0) r)) e)
 
-  start-with : (kind : ℕ) (q : List Pair) → Bases ts p (tables .class0) (tables .class1) (bytesOf kind) q → (i : ℕ) → i < 128
+  start-with : (kind : ℕ) (q : List Pair) → Bases ts p (tables .class0) (tables .class1) (inARow (bytesOf kind)) q → (i : ℕ) → i < 128
       → startWith q (bytesOf kind) (fallbacksOf ts kind p) i ≡ endStart tables ts kind p (i / 64) (i % 64)
   unfolding startOver endStart
   start-with kind q h i hi =
-      let c0 = first-byte kind (i % 64) in
-      let c1 = byte-at kind (i % 64) 1 in
-      let at = base-at (tables .class0) (tables .class1) (bytesOf kind) q h in
-      let b0 = at (2 * (i % 64)) (i / 64) (endByte tables kind (i % 64) 0) (omega arith) (omega arith) c0 in
-      let b1 = at (2 * (i % 64) + 1) (i / 64) (endByte tables kind (i % 64) 1) (omega arith) (omega arith) c1 in
+      let c0 = byte-at kind (i % 64) 0 (omega arith) (omega arith) in
+      let c1 = byte-at kind (i % 64) 1 (omega arith) (omega arith) in
+      let at = base-at (tables .class0) (tables .class1) (inARow (bytesOf kind)) q h in
+      let b0 = at (2 * (i % 64)) (i / 64) (endByte tables kind (i % 64) 0) (omega arith) (omega arith) (row-first kind (i % 64) (omega arith)) in
+      let b1 =
+      at (2 * (i % 64) + 1) (i / 64) (endByte tables kind (i % 64) 1) (omega arith) (omega arith)
+      (row-byte kind (i % 64) 1 (omega arith) (omega arith)) in
       let fall = tab-at Entry noEntry (λ (k : ℕ). fallback tables ts kind p (k / 64) (k % 64)) 128 i hi in
-      ap (λ (f : Entry). startOver f (ofParity (pairAt q (2 * (i % 64))) (i / 64)) (getD (bytesOf kind) (2 * (i % 64)) 0)
-      (ofParity (pairAt q (2 * (i % 64) + 1)) (i / 64)) (getD (bytesOf kind) (2 * (i % 64) + 1) 0)) fall
+      ap (λ (f : Entry). startOver f (ofParity (pairAt q (2 * (i % 64))) (i / 64)) (byteIn (bytesOf kind) (i % 64) 0)
+      (ofParity (pairAt q (2 * (i % 64) + 1)) (i / 64)) (byteIn (bytesOf kind) (i % 64) 1)) fall
       ∙ (ap₂ (λ (a : Best) (c : ℕ). startOver (fallback tables ts kind p (i / 64) (i % 64)) a c
-      (ofParity (pairAt q (2 * (i % 64) + 1)) (i / 64)) (getD (bytesOf kind) (2 * (i % 64) + 1) 0)) b0 c0
+      (ofParity (pairAt q (2 * (i % 64) + 1)) (i / 64)) (byteIn (bytesOf kind) (i % 64) 1)) b0 c0
       ∙ ap₂ (λ (a : Best) (c : ℕ). startOver (fallback tables ts kind p (i / 64) (i % 64))
       (baseBest (classOf tables (i / 64)) (baseNow (row ts p (endByte tables kind (i % 64) 0) 0) (i / 64))) (endByte tables kind (i % 64) 0) a c)
       b1 c1)
 
   -- the entries of an end, and the middle ones
-  pub ends-flat : (kind : ℕ) (q : List Pair) → Bases ts p (tables .class0) (tables .class1) (bytesOf kind) q
+  pub ends-flat : (kind : ℕ) (q : List Pair) → Bases ts p (tables .class0) (tables .class1) (inARow (bytesOf kind)) q
       → tab (startWith q (bytesOf kind) (fallbacksOf ts kind p)) 128
       ≡ tab (λ (i : ℕ). endStart tables ts kind p (i / 64) (i % 64)) 128
   ends-flat kind q h =

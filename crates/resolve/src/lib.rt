@@ -2,17 +2,19 @@
 // encoder.rs, and the calls that resolve one entry or all that a bound leaves), over the flat rows of a section.
 ghost use mathlib.Core.Path.{_≡_};
 ghost use Prim.Native.Nat.{ℕ, _<_, _+_, _*_, _/_, _%_};
-ghost use lib.IntN.{pos};
-ghost use lib.ListN.{getD};
 ghost use lib.Ieee.{lt, binary64, mul, sub};
-ghost use Rattle.laws.specs.Lists.{tab};
-ghost use Rattle.search.specs.Tables as lists;
+ghost use Rattle.laws.specs.Words.{tab};
+ghost use Rattle.rank.specs.Coord.{valOf};
+ghost use Rattle.rank.specs.Answers.{packedOf};
+ghost use Rattle.search.specs.Bound.{lexOf};
+ghost use Rattle.search.specs.Record.{bitAt};
 ghost use Rattle.search.specs.Tables.{tables, classOf};
 ghost use Rattle.search.specs.Entries as search;
 ghost use Rattle.search.specs.Parity.{fixed, closed};
-ghost use Rattle.solve.specs.Flat.{solveIn};
-ghost use Rattle.resolve.specs.Flat.{betterBy, midBy, endOver, endWith, midOver, midWith, closedWith};
-ghost use Rattle.resolve.specs.Flat.{fallbackIn, ofParity, loweredBy, startOver, startWith, baseEntry, midStartWith};
+ghost use Rattle.solve.specs.Inner.Flat.{solveIn};
+ghost use Rattle.resolve.specs.Inner.Flat.{betterBy, midBy, endOver, endWith, midOver, midWith, closedWith};
+ghost use Rattle.resolve.specs.Inner.Flat.{memberAt, membersOf, squaresOf, sumTo, fallbackIn, ofParity, loweredBy, startOver, startWith, baseEntry, midStartWith};
+use rank::Bound;
 use search::Best;
 use search::Closed;
 use search::Entry;
@@ -20,13 +22,6 @@ use search::Found;
 use solve::Pair;
 
 mod tables;
-
-// The eight sets of sixteen middle bytes.
-pub fn middle_sets() -> [u8; 128]
-    ensures { λ r. ⌜ r ≡ lists.middleSets ⌝ }
-{
-    tables::middle_sets()
-}
 
 // ---- leaves
 // What the join does not see.
@@ -41,33 +36,46 @@ fn infeasible() -> Entry
     }
 }
 
+// A bound of crate rank as the search compares with it: its cut as one number, coordinate 0 most significant.
+fn closed_of(b: Bound) -> Closed
+    ensures { λ r. ⌜ r ≡ record { cost = b .cost; cut = lexOf (packedOf (b .cut)) } ⌝ }
+{
+    let cut = b.cut;
+    let packed = rank::pack(cut);
+    let turned = solve::lex(packed);
+    Closed {
+        cost: b.cost,
+        cut: turned,
+    }
+}
+
 // The bound of class r.
 pub fn class_bound(r: usize) -> Closed
     ensures { λ x. ⌜ x ≡ classOf tables r ⌝ }
 {
     if r == 0 {
-        return Closed {
-            cost: 88,
-            cut: 0x11030011,
-        };
+        return closed_of(rank::class_bound(0));
     }
-    Closed {
-        cost: 96,
-        cut: 0x00222011,
-    }
+    closed_of(rank::class_bound(1))
 }
 
 // The bound of a middle section.
 pub fn mixed_bound() -> Closed
     ensures { λ r. ⌜ r ≡ tables .mixed ⌝ }
 {
-    Closed {
-        cost: 72,
-        cut: 0x30001010,
-    }
+    closed_of(rank::mixed_bound())
 }
 
 // ---- the fallbacks
+// The member of o + 4Z at the rank rho.
+fn member(o: u32, rho: u32) -> i32
+    requires { ⌜ (o < 4) × (rho < 8) ⌝ }
+    ensures { λ r. ⌜ r ≡ valOf o rho ⌝ }
+{
+    let v = rank::val(o, rho);
+    v.value
+}
+
 // A squared difference.
 fn sq(x: f64, t: f64) -> f64
     ensures { λ r. ⌜ r ≡ mul binary64 (sub binary64 x t) (sub binary64 x t) ⌝ }
@@ -75,32 +83,74 @@ fn sq(x: f64, t: f64) -> f64
     (x - t) * (x - t)
 }
 
-// The squared distance from fallback i to the target.
-fn dist_to(points: &[i32; 4096], i: usize, t: [f64; 8]) -> f64
-    requires { ⌜ i < 512 ⌝ }
-    ensures { λ r. ⌜ r ≡ search.distTo (λ (j : ℕ). getD (now (points .entry)) (8 * i + j) (pos 0)) t 8 ⌝ }
+// The members that a fallback's coordinate can have at the parity p: at 4 c + rank, for the pattern bit c. A fallback's ranks are below 4.
+fn member_at(p: u32, i: usize) -> f64
+    requires { ⌜ (p < 2) × (i < 8) ⌝ }
+    ensures { λ r. ⌜ r ≡ memberAt p i ⌝ }
+{
+    let v = member(p + 2 * ((i / 4) as u32), (i % 4) as u32);
+    v as f64
+}
+
+fn members(p: u32) -> [f64; 8]
+    requires { ⌜ p < 2 ⌝ }
+    ensures { λ r. ⌜ r ≡ membersOf p ⌝ }
+{
+    let mut out = [0.0f64; 8];
+    for i in 0..8usize {
+        out[i] = member_at(p, i);
+    }
+    out
+}
+
+// Their squared distances to each coordinate's target: 64 squares, in place of eight for each of the 128 fallbacks.
+fn squares(m: &[f64; 8], t: [f64; 8]) -> [f64; 64]
+    ensures { λ r. ⌜ r ≡ squaresOf (now (m .entry)) t ⌝ }
+{
+    let mut out = [0.0f64; 64];
+    for i in 0..64usize {
+        out[i] = sq(m[i % 8], t[i / 8]);
+    }
+    out
+}
+
+// Bit j of a pattern.
+fn bit(c: u8, j: usize) -> usize
+    requires { ⌜ j < 8 ⌝ }
+    ensures { λ r. ⌜ (r ≡ bitAt c j) × (r < 2) ⌝ }
+{
+    ((c >> j) & 1) as usize
+}
+
+// Rank j of a packed row, cut to two bits.
+fn low_rank(key: u32, j: usize) -> usize
+    requires { ⌜ j < 8 ⌝ }
+    ensures { λ r. ⌜ (r ≡ search.rankAt key j % 4) × (r < 4) ⌝ }
+{
+    ((key >> (4 * j)) & 3) as usize
+}
+
+// The squared distance to the target of the section of byte c and packed row key.
+fn dist_to(squares: &[f64; 64], c: u8, key: u32) -> f64
+    ensures { λ r. ⌜ r ≡ sumTo (now (squares .entry)) c key 8 ⌝ }
 {
     let mut s = 0.0f64;
     for j in 0..8usize {
-        s = s + sq(points[8 * i + j] as f64, t[j]);
+        let b = bit(c, j);
+        let r = low_rank(key, j);
+        s = s + squares[8 * j + 4 * b + r];
     }
     s
 }
 
 // The fallback at place i, as an entry.
-fn fallback(
-    bytes: &[u8; 512],
-    keys: &[u32; 512],
-    points: &[i32; 4096],
-    i: usize,
-    t: [f64; 8],
-) -> Entry
+fn fallback(bytes: &[u8; 512], keys: &[u32; 512], squares: &[f64; 64], i: usize) -> Entry
     requires { ⌜ i < 512 ⌝ }
-    ensures { λ r. ⌜ r ≡ fallbackIn (now (bytes .entry)) (now (keys .entry)) (now (points .entry)) t i ⌝ }
+    ensures { λ r. ⌜ r ≡ fallbackIn (now (bytes .entry)) (now (keys .entry)) (now (squares .entry)) i ⌝ }
 {
-    let value = dist_to(points, i, t);
     let byte = bytes[i];
     let key = keys[i];
+    let value = dist_to(squares, byte, key);
     Entry {
         value,
         exact: true,
@@ -113,17 +163,16 @@ fn fallback(
 fn fallbacks_from(
     bytes: &[u8; 512],
     keys: &[u32; 512],
-    points: &[i32; 4096],
+    squares: &[f64; 64],
     from: usize,
-    t: [f64; 8],
 ) -> [Entry; 128]
     requires { ⌜ from < 385 ⌝ }
-    ensures { λ r. ⌜ r ≡ tab (λ (i : ℕ). fallbackIn (now (bytes .entry)) (now (keys .entry)) (now (points .entry)) t (from + i)) 128 ⌝ }
+    ensures { λ r. ⌜ r ≡ tab (λ (i : ℕ). fallbackIn (now (bytes .entry)) (now (keys .entry)) (now (squares .entry)) (from + i)) 128 ⌝ }
 {
     let none = infeasible();
     let mut out = [none; 128];
     for i in 0..128usize {
-        out[i] = fallback(bytes, keys, points, from + i, t);
+        out[i] = fallback(bytes, keys, squares, from + i);
     }
     out
 }
@@ -134,13 +183,13 @@ pub fn fallbacks(kind: u32, p: u32, t: [f64; 8]) -> [Entry; 128]
 {
     let bytes = tables::fallback_bytes();
     let keys = tables::fallback_keys();
-    let points = tables::fallback_points();
+    let m = members(p % 2);
+    let squares = squares(&m, t);
     fallbacks_from(
         &bytes,
         &keys,
-        &points,
+        &squares,
         ((kind % 2 * 2 + p % 2) * 128) as usize,
-        t,
     )
 }
 
@@ -205,7 +254,7 @@ fn end_start(f: Entry, b0: Best, c0: u8, b1: Best, c1: u8) -> Entry
 }
 
 // The entries of an end as they start: the bases of both bytes of a state, and its fallback.
-pub fn ends(pairs: [Pair; 128], bytes: &[u8; 128], fall: [Entry; 128]) -> [Entry; 128]
+pub fn ends(pairs: [Pair; 128], bytes: &[[u8; 2]; 64], fall: [Entry; 128]) -> [Entry; 128]
     ensures { λ r. ⌜ r ≡ tab (startWith pairs (now (bytes .entry)) fall) 128 ⌝ }
 {
     let none = infeasible();
@@ -216,7 +265,7 @@ pub fn ends(pairs: [Pair; 128], bytes: &[u8; 128], fall: [Entry; 128]) -> [Entry
         let q1 = pairs[2 * (i % 64) + 1];
         let b0 = of_parity(q0, i / 64);
         let b1 = of_parity(q1, i / 64);
-        out[i] = end_start(f, b0, bytes[2 * (i % 64)], b1, bytes[2 * (i % 64) + 1]);
+        out[i] = end_start(f, b0, bytes[i % 64][0], b1, bytes[i % 64][1]);
     }
     out
 }
@@ -342,9 +391,20 @@ fn mid_resolve(
             key,
         },
         Found::Nothing => {
-            if n < 8 {
+            if n < search::SHRINKS {
                 return mid_of(
-                    solve::solve(regret, dist, weight, rank, odd, up, c, d as u32, b, 8),
+                    solve::solve(
+                        regret,
+                        dist,
+                        weight,
+                        rank,
+                        odd,
+                        up,
+                        c,
+                        d as u32,
+                        b,
+                        search::SHRINKS,
+                    ),
                     c,
                 );
             }
@@ -392,7 +452,7 @@ pub fn resolve_ends(
     rank: &[u8; 640],
     odd: &[u8; 128],
     up: &[bool; 128],
-    bytes: &[u8; 128],
+    bytes: &[[u8; 2]; 64],
     fall: [Entry; 128],
     e: [Entry; 128],
     b: [f64; 128],
@@ -408,8 +468,8 @@ pub fn resolve_ends(
     for i in 0..128usize {
         let first = fall[i];
         let x = e[i];
-        let c0 = bytes[2 * (i % 64)];
-        let c1 = bytes[2 * (i % 64) + 1];
+        let c0 = bytes[i % 64][0];
+        let c1 = bytes[i % 64][1];
         out[i] = end_closed(
             regret,
             dist,
@@ -507,7 +567,7 @@ pub fn seed_end(
     rank: &[u8; 640],
     odd: &[u8; 128],
     up: &[bool; 128],
-    bytes: &[u8; 128],
+    bytes: &[[u8; 2]; 64],
     fall: [Entry; 128],
     e: [Entry; 128],
     i: usize,
@@ -525,8 +585,8 @@ pub fn seed_end(
         return e;
     }
     let f = fall[i];
-    let c0 = bytes[2 * (i % 64)];
-    let c1 = bytes[2 * (i % 64) + 1];
+    let c0 = bytes[i % 64][0];
+    let c1 = bytes[i % 64][1];
     let mut out = e;
     out[i] = end_resolve(regret, dist, weight, rank, odd, up, f, i / 64, c0, c1, n);
     out

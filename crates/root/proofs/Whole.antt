@@ -11,7 +11,7 @@ use lib.Pow.{pow-add}
 use lib.Ieee.{Float, nan, inf, fin, binary64, fits, eq, lt, ofBits, nanBits}
 use lib.Ieee.Bits.{nanBits-is}
 use lib.Ieee.Scale.{finite}
-use Rattle.laws.specs.Tests.{true-is}
+use Rattle.laws.specs.Laws.Tests.{true-is}
 use Rattle.float.specs.Value.{U, magUnits, zero64}
 use Rattle.float.specs.Laws.Exact.{Exactly, no-nan, no-digits, some-digits, zero-fits, zero-mag}
 use Rattle.float.specs.Laws.Compare.{is-lt, zero-lt, eq-zero, zero-eq}

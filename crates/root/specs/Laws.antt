@@ -43,7 +43,7 @@ use lib.Pow.{pow-add, pow-pos, pow-mono}
 use lib.Ieee.{Float, binary64, fits, size, round}
 use lib.Ieee.Digits.{size-lt, size-le, size-reaches}
 use lib.Ieee.Scale.{finite}
-use Rattle.laws.specs.Order.{le-or-lt}
+use Rattle.laws.specs.Laws.Order.{le-or-lt}
 use Rattle.float.specs.Value.{U, magUnits}
 use Rattle.float.specs.Laws.Exact.{Exactly, Digits, digits, mag-lt, round-exactly}
 use Rattle.root.specs.Root.{NearestRoot, twiceOr, wholeRoot, nearer, rootUnits, rootOf}

@@ -9,7 +9,7 @@ use lib.Dec.{T}
 use lib.ListN.{length}
 use Rattle.rank.specs.Vector.{class, inClass, inMiddle}
 use Rattle.rows.specs.Table.{rowRanks, IsRow, seatAt, classIndexOf}
-use Rattle.rows.specs.Table.{middleRows, middleClass, middleRow, IsMiddleRow, middleSeat, mixedIndexOf, numberOf, valuesOf}
+use Rattle.rows.specs.Table.{middleRows, middleClass, middleRow, IsMiddleRow, middleSeat, mixedIndexOf, seatedNumber, valuesOf}
 use Rattle.rows.specs.Laws.Rule.{row-class, row-in}
 use Rattle.rows.specs.Laws.Places.{number-class, number-index, number-back, position-of-row, position-none, row-or-none, is-row}
 use Rattle.rows.specs.Laws.Middle.{Names, named, used-small, used-row, middle-lt, middle-row-class}
@@ -21,7 +21,7 @@ use Rattle.rows.specs.declared.Seated.the-variants.{At, Nothing}
 -- ---- class_index
 -- the answer for v: the class and the index of the row that v is, and no value where v is no row
 pub record ClassIndex (v : List ℕ) (r : Seated) : Type 0 where
-  pub number : numberOf r ≡ 0
+  pub number : seatedNumber r ≡ 0
   pub row : (c i : ℕ) → c < 2 → i < 2048 → rowRanks (2048 * c + i) ≡ v → valuesOf r ≡ c ∷ i ∷ []
   pub none : (IsRow v → ⊥) → valuesOf r ≡ []
 
@@ -87,7 +87,7 @@ class-index-back v e c i a = go (row-or-none v e)
 -- ---- mixed_index
 -- the answer for v: the class and the middle's index of the row that v is, and no value where v is none of the middle's rows
 pub record MixedIndex (v : List ℕ) (r : Seated) : Type 0 where
-  pub number : numberOf r ≡ 0
+  pub number : seatedNumber r ≡ 0
   pub row : (i : ℕ) → i < 2048 → rowRanks (middleRow i) ≡ v → valuesOf r ≡ middleClass i ∷ i ∷ []
   pub none : (IsMiddleRow v → ⊥) → valuesOf r ≡ []
 

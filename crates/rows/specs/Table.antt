@@ -5,7 +5,7 @@ use mathlib.Core.List.{List, [], _∷_}
 use Prim.Native.Nat.{ℕ, zero, suc, _+_, _*_, _-_, _/_, _%_, _<_}
 use lib.Dec.{ltb}
 use lib.ListN.{getD}
-use Rattle.laws.specs.Lists.{seek}
+use Rattle.laws.specs.Words.{seek}
 use Rattle.rank.specs.Vector.{ranksBelow, pack, unpack}
 use Rattle.rows.specs.Rows.{rows}
 use Rattle.rows.specs.declared.Seated.{Seated}
@@ -67,9 +67,9 @@ unfoldable pub mixedIndexOf : List ℕ → Seated
 mixedIndexOf v = middleSeat (classIndexOf v)
 
 -- ---- document 01's number and values of each answer. That a vector is no row is an answer and no refusal.
-abbrev pub numberOf : Seated → ℕ
-numberOf (At c i) = 0
-numberOf Nothing = 0
+abbrev pub seatedNumber : Seated → ℕ
+seatedNumber (At c i) = 0
+seatedNumber Nothing = 0
 
 -- the class and the index, or no value
 abbrev pub valuesOf : Seated → List ℕ

@@ -1,5 +1,5 @@
 // The table of 4,096 rank vectors, and the lookups in it.
-mod table;
+mod tables;
 
 use rank::Bound;
 ghost use mathlib.Core.Path.{_≡_};
@@ -31,7 +31,7 @@ pub enum Seated {
 pub fn rows() -> [u32; 4096]
     ensures { λ r. ⌜ r ≡ rows ⌝ }
 {
-    table::TABLE
+    tables::TABLE
 }
 
 // Row `i`, packed; 0 past the table.

@@ -7,7 +7,7 @@ use native.Mathlib.Nat.{not-suc-le-zero, le-of-suc-le-suc}
 use lib.IntN.{ℤ, pos}
 use lib.ListN.{length, drop, getD, drop-of-length-le}
 use lib.Ieee.{Float, nan, binary64, add, mul, ofInt}
-use Rattle.laws.specs.Lists.{filled, drop-next}
+use Rattle.laws.specs.Laws.Lists.{filled, drop-next}
 use Rattle.float.specs.Calls.{absOf, sumFrom}
 use Rattle.score.specs.Samples.{some}
 use Rattle.score.specs.Score.{products, doublesOf}

@@ -101,6 +101,7 @@ fn dot(a: [f64; 24], b: [f64; 24]) -> f64
     acc
 }
 
+// Each as a double, which is exact.
 pub fn doubles(y: [i32; 24]) -> [f64; 24]
     ensures { λ r. ⌜ r ≡ doublesOf y ⌝ }
 {

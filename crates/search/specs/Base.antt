@@ -12,10 +12,10 @@ use lib.ListN.{getD}
 use lib.Bits.{bitAnd, bitOr}
 use lib.Dec.{eqb}
 use lib.Ieee.{Float, nan, binary64, add, sub, lt}
-use Rattle.laws.specs.Whole.{modZ}
+use Rattle.laws.specs.Words.{modZ}
 use Rattle.float.specs.Value.{zero64}
 use Rattle.search.specs.declared.Coord.{Coord}
-use Rattle.search.specs.declared.Now.{Now}
+use Rattle.search.specs.declared.Candidate.{Candidate}
 use Rattle.search.specs.declared.Best.{Best}
 use Rattle.search.specs.declared.Closed.{Closed}
 use Rattle.search.specs.Record.{coordAt}
@@ -40,7 +40,7 @@ parTo e zero = 0
 parTo e (suc n) = (parTo e n + modZ (coordAt e n .k0) 2) % 2
 
 -- cost, packed row and distance of the first n coordinates, at slot 2 but slot `fix` at j0
-unfoldable pub nowTo : List Coord → ℕ → ℕ → ℕ → Now
+unfoldable pub nowTo : List Coord → ℕ → ℕ → ℕ → Candidate
 nowTo e j0 fix zero = record { cost = 0; key = 0; dist = zero64 }
 nowTo e j0 fix (suc n) =
     record {
@@ -54,7 +54,7 @@ unfoldable pub keySet : ℕ → ℕ → ℕ → ℕ
 keySet key j x = bitOr (bitAnd key (2 ^ 32 - 1 - 15 * 2 ^ (4 * j) % 2 ^ 32)) (x * 2 ^ (4 * j) % 2 ^ 32)
 
 -- coordinate j, whose record is c, a step toward its target: the distance loses a term and gains a term
-unfoldable pub stepped : Coord → Now → ℕ → Now
+unfoldable pub stepped : Coord → Candidate → ℕ → Candidate
 stepped c s j =
     record {
       cost = s .cost - getD (c .w) 2 0 + getD (c .w) (towardOf (c .dir)) 0;
@@ -63,8 +63,8 @@ stepped c s j =
     }
 
 -- the base for parity r: all coordinates at their rounding, and where that has the other parity, the least decided one a step toward its target
-unfoldable pub baseNow : List Coord → ℕ → Now
+unfoldable pub baseNow : List Coord → ℕ → Candidate
 baseNow e r = cond (eqb (parTo e 8) r) (nowTo e 0 2 8) (stepped (coordAt e (worstTo e 8)) (nowTo e 0 2 8) (worstTo e 8))
 
-abbrev pub baseBest : Closed → Now → Best
+abbrev pub baseBest : Closed → Candidate → Best
 baseBest bound n = record { d = n .dist; key = n .key; met = holds bound (n .cost) (n .key) }

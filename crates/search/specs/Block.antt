@@ -9,16 +9,17 @@ use lib.Dec.{ltb}
 use lib.IntN.{ℤ}
 use lib.ListN.{getD}
 use lib.Ieee.{Float, nan}
-use Rattle.laws.specs.Lists.{tab}
+use Rattle.laws.specs.Words.{tab}
 use Rattle.trellis.specs.Trio.{order, places}
 use Rattle.search.specs.declared.Winner.{Winner}
+use Rattle.search.specs.Record.{allShrinks, endShrinks}
 use Rattle.search.specs.Tables.{tables}
 use Rattle.search.specs.Entries.{Rule, sectionAt}
 use Rattle.search.specs.Parity.{Targets, search}
 
 -- ---- a setting of the shrinks: n of them, but no more than 7 at the ends and 8 in the middle
 abbrev pub ruleOf : ℕ → Rule
-ruleOf n = record { ends = cond (ltb n 7) n 7; mids = cond (ltb n 8) n 8 }
+ruleOf n = record { ends = cond (ltb n endShrinks) n endShrinks; mids = cond (ltb n allShrinks) n allShrinks }
 
 -- ---- in: 24 doubles in natural order
 -- the coordinate that stands at place j of trio order
@@ -37,8 +38,8 @@ abbrev pub targetsOf : List Float → Targets
 targetsOf t = sections (trioOf t)
 
 -- ---- out: the point of a winner in trio order, section by section,
-abbrev pub pointAt : Winner → ℕ → ℤ
-pointAt w j =
+abbrev pub winnerAt : Winner → ℕ → ℤ
+winnerAt w j =
     cond (ltb j 8) (sectionAt (w .p) (w .s1 .byte) (w .s1 .key) j)
     (cond (ltb j 16) (sectionAt (w .p) (w .s2 .byte) (w .s2 .key) (j - 8)) (sectionAt (w .p) (w .s3 .byte) (w .s3 .key) (j - 16)))
 
@@ -47,7 +48,7 @@ abbrev pub place : ℕ → ℕ
 place i = getD places i 0
 
 abbrev pub pointFrom : Winner → List ℤ
-pointFrom w = tab (λ i. pointAt w (place i)) 24
+pointFrom w = tab (λ i. winnerAt w (place i)) 24
 
 -- ---- the winner at a target over the parities ps, at setting n
 abbrev pub winnerFor : List ℕ → ℕ → List Float → Winner

@@ -13,7 +13,7 @@ use Rattle.rank.specs.Coord.{valOf}
 use Rattle.float.specs.Value.{zero64}
 use Rattle.search.specs.declared.Best.{Best}
 use Rattle.search.specs.declared.Entry.{Entry}
-use Rattle.search.specs.Record.{bitAt, sqTo, row}
+use Rattle.search.specs.Record.{bitAt, sqTo, allShrinks, row}
 use Rattle.search.specs.Bound.{holds}
 use Rattle.search.specs.Base.{baseNow, baseBest}
 use Rattle.search.specs.Solve.{solve, infinity}
@@ -70,7 +70,7 @@ midOf b c = cond (b .met) (record { value = b .d; exact = true; byte = c; key = 
 -- the same search again)
 unfoldable pub midResolve : Tables → Rule → List Float → ℕ → ℕ → ℕ → Entry
 midResolve g u ts p c d =
-    cond (solve ts p c d (g .mixed) (u .mids) .met) (midOf (solve ts p c d (g .mixed) (u .mids)) c) (midOf (solve ts p c d (g .mixed) 8) c)
+    cond (solve ts p c d (g .mixed) (u .mids) .met) (midOf (solve ts p c d (g .mixed) (u .mids)) c) (midOf (solve ts p c d (g .mixed) allShrinks) c)
 
 -- ---- as they start
 -- an end entry in the making: the nearest member so far, the least distance of a base that is no member, and whether there was one

@@ -8,7 +8,7 @@ use mathlib.Core.List.{List, [], _∷_}
 use Prim.Native.Nat.{ℕ, zero, suc, _+_, _*_, _/_, _%_}
 use lib.ListN.{getD, set}
 use lib.Ieee.{Float, nan, lt}
-use Rattle.laws.specs.Lists.{tab}
+use Rattle.laws.specs.Words.{tab}
 use lib.Ieee.Scale.{finite}
 use Rattle.search.specs.declared.Entry.{Entry}
 use Rattle.search.specs.declared.Way.{Way}

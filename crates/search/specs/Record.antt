@@ -9,7 +9,7 @@ use Prim.Native.Nat.{ℕ, zero, suc, _+_, _*_, _/_, _%_, _^_}
 use lib.IntN.{ℤ, pos, negsuc, _+ℤ_, _-ℤ_, _*ℤ_}
 use lib.ListN.{getD}
 use lib.Ieee.{Float, nan, fin, binary64, add, sub, mul, div, lt, ofInt, ofBits}
-use Rattle.laws.specs.Lists.{tab}
+use Rattle.laws.specs.Words.{tab}
 use Rattle.rank.specs.Vector.{sq}
 use Rattle.rank.specs.Answers.{markOf}
 use Rattle.float.specs.Value.{zero64, four64}
@@ -61,6 +61,13 @@ unfoldable pub shrinks : List Float
 shrinks =
     fin false 1 (pos 0) ∷ ofBits binary64 0x3feb333333333333 ∷ ofBits binary64 0x3fe6666666666666 ∷ ofBits binary64 0x3fe199999999999a
     ∷ ofBits binary64 0x3fd999999999999a ∷ ofBits binary64 0x3fd0000000000000 ∷ ofBits binary64 0x3fb999999999999a ∷ zero64 ∷ []
+
+-- how many they are, and how many of them an end runs at most
+abbrev pub allShrinks : ℕ
+allShrinks = 8
+
+abbrev pub endShrinks : ℕ
+endShrinks = 7
 
 -- the eight records of a section's targets, of parity p and pattern c, at shrink s
 unfoldable pub row : List Float → ℕ → ℕ → ℕ → List Coord

@@ -11,7 +11,7 @@ use lib.Bits.{bitAnd, bitOr}
 use lib.Dec.{eqb}
 use lib.Ieee.{Float, nan, inf, binary64, add, sub, lt, le}
 use Rattle.search.specs.declared.Coord.{Coord}
-use Rattle.search.specs.declared.Now.{Now}
+use Rattle.search.specs.declared.Candidate.{Candidate}
 use Rattle.search.specs.declared.Best.{Best}
 use Rattle.search.specs.declared.Top.{Top}
 use Rattle.search.specs.declared.Closed.{Closed}
@@ -36,7 +36,7 @@ abbrev pub fixOf : List Coord → ℕ → ℕ → ℕ
 fixOf e want j0 = cond (eqb (parTo e 8) want) 2 (towardOf (coordAt e j0 .dir))
 
 -- a member that is strictly nearer replaces the best
-abbrev pub keptBase : Closed → Now → Best → Best
+abbrev pub keptBase : Closed → Candidate → Best → Best
 keptBase bound n best =
     cond (holds bound (n .cost) (n .key) && lt (n .dist) (best .d)) (record { d = n .dist; key = n .key; met = true }) best
 
@@ -56,7 +56,7 @@ keyMoved key j x j2 y =
     (y * 2 ^ (4 * j2) % 2 ^ 32)
 
 -- passed over where it is no nearer; taken where it is a member
-unfoldable pub stepOf : Coord → Coord → Closed → Now → Best → ℕ → ℕ → ℕ → ℕ → ℕ → ℕ → Best
+unfoldable pub stepOf : Coord → Coord → Closed → Candidate → Best → ℕ → ℕ → ℕ → ℕ → ℕ → ℕ → Best
 stepOf a b bound n best j f fj j2 g f2 =
     cond (le (best .d) (movedD a b (n .dist) f fj g f2)) best
     (cond (holds bound (movedC a b (n .cost) f fj g f2) (keyMoved (n .key) j (getD (a .rank) fj 0) j2 (getD (b .rank) f2 0)))
@@ -72,14 +72,14 @@ abbrev pub secondOf : ℕ → ℤ → ℕ
 secondOf g dir = cond (eqb g 2) (towardOf dir) 2
 
 -- step i: coordinate i / 2 down where i is even, up where it is odd
-abbrev pub moveAt : List Coord → Top → ℕ → Closed → Now → Best → ℕ → Best
+abbrev pub moveAt : List Coord → Top → ℕ → Closed → Candidate → Best → ℕ → Best
 moveAt e top fix bound n best i =
     stepOf (coordAt e (i / 2)) (coordAt e (otherOf (i / 2) (top .j0) (top .j1))) bound n best
     (i / 2) (slotOf (top .j0) fix (i / 2)) (slotOf (top .j0) fix (i / 2) + 2 * (i % 2) - 1)
     (otherOf (i / 2) (top .j0) (top .j1)) (slotOf (top .j0) fix (otherOf (i / 2) (top .j0) (top .j1)))
     (secondOf (slotOf (top .j0) fix (otherOf (i / 2) (top .j0) (top .j1))) (coordAt e (otherOf (i / 2) (top .j0) (top .j1)) .dir))
 
-unfoldable pub movesTo : List Coord → Top → ℕ → Closed → Now → Best → ℕ → Best
+unfoldable pub movesTo : List Coord → Top → ℕ → Closed → Candidate → Best → ℕ → Best
 movesTo e top fix bound n start zero = start
 movesTo e top fix bound n start (suc i) = moveAt e top fix bound n (movesTo e top fix bound n start i) i
 

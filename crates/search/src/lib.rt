@@ -3,6 +3,11 @@
 ghost use mathlib.Core.Path.{_≡_};
 ghost use Rattle.search.specs.Solve.{infinity};
 
+// How many shrinks there are, and how many of them an end runs at most.
+pub const SHRINKS: usize = 8;
+
+pub const END_SHRINKS: usize = 7;
+
 // One coordinate under one offset at one shrink: its rounding k0, the side on which its target lies (dir, 1 or -1), how far off the rounding
 // is (regret), and the five values o + 4k for k from k0 - 2 to k0 + 2, each with its rank (15 for none), its weight (2 rank + 1)^2 and its
 // squared distance to the target before the shrink.
@@ -22,7 +27,7 @@ pub struct Closed {
 }
 
 // A candidate for a section: its cost, its packed row, its squared distance.
-pub struct Now {
+pub struct Candidate {
     pub cost: u32,
     pub key: u32,
     pub dist: f64,

@@ -5,7 +5,7 @@ use Prim.Native.Nat.{ℕ, _+_, _*_, _/_, _%_, _<_}
 use native.Mathlib.Omega.{arith}
 use lib.Bits.{bitAnd, bitOr, and-block, and-mask, and-high, or-block, or-shifted}
 use Rattle.search.specs.Bound.{lexNum, lexOf}
-use Rattle.solve.specs.Flat.{swapBytes}
+use Rattle.solve.specs.Inner.Flat.{swapBytes}
 
 -- ---- the bytes swapped
 pub bytes : (x : ℕ) → x < 4294967296

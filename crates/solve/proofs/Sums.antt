@@ -8,7 +8,7 @@ use native.Mathlib.Omega.{arith}
 use lib.ListN.{getD}
 use lib.Ieee.{Float}
 use Rattle.search.specs.Base.{slotOf}
-use Rattle.solve.specs.Flat.{spot, baseIn}
+use Rattle.solve.specs.Inner.Flat.{spot, baseIn}
 
 split : (j n : ℕ) → j < suc n → (j ≡ n) ⊎ (j < n)
 split j n h = eq-or-lt-of-le (omega arith)

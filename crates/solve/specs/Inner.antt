@@ -1,4 +1,5 @@
 -- What the inner functions ask of each other so that no index leaves a row and no sum wraps. No public contract cites this file.
+pub mod Flat
 use mathlib.Core.Path.{_≡_}
 use mathlib.Core.List.{List}
 use Prim.Native.Nat.{ℕ, _<_, _≤_, _+_}
@@ -7,7 +8,7 @@ use Rattle.search.specs.declared.Top.{Top}
 use Rattle.search.specs.Base.{slotOf}
 use Rattle.search.specs.Solve.{otherOf}
 use Rattle.solve.specs.declared.Start.{Start}
-use Rattle.solve.specs.Flat.{spot}
+use Rattle.solve.specs.Inner.Flat.{spot}
 
 -- each of the eight places is one of the 128
 abbrev pub Placed : List ℕ → Type 0

@@ -10,20 +10,21 @@ use lib.IntN.{pos}
 use lib.Signed.{ltZ}
 use lib.ListN.{getD}
 use lib.Ieee.{Float, nan, lt}
-use Rattle.laws.specs.Tests.{cond-same, cond-ap}
-use Rattle.laws.specs.Lists.{tab, tab-at}
-use Rattle.laws.specs.Whole.{modZ}
+use Rattle.laws.specs.Laws.Tests.{cond-same, cond-ap}
+use Rattle.laws.specs.Words.{tab}
+use Rattle.laws.specs.Laws.Lists.{tab-at}
+use Rattle.laws.specs.Words.{modZ}
 use Rattle.search.specs.declared.Coord.{Coord}
 use Rattle.search.specs.declared.Closed.{Closed}
-use Rattle.search.specs.declared.Now.{Now}
+use Rattle.search.specs.declared.Candidate.{Candidate}
 use Rattle.search.specs.declared.Best.{Best}
 use Rattle.search.specs.declared.Top.{Top}
 use Rattle.search.specs.Record.{coordOf, coordAt, noCoord, shrinks, row, bitAt}
 use Rattle.search.specs.Base.{slotOf, worstTo, parTo, nowTo, stepped, baseNow, baseBest}
 use Rattle.search.specs.Solve.{topTo, fixOf, stepOf, otherOf, moveAt, movesTo, layerOf, layersTo, solve}
-use Rattle.coord.specs.Rows.{coordIn, tableOf, regretsOf, distsOf, weightsOf, ranksOf, oddsOf, upsOf}
-use Rattle.solve.specs.Flat.{placeOf, placesOf, spot, topIn, regretAt, parIn, towardIn, fixIn, baseIn, distIn, stepIn, turnIn}
-use Rattle.solve.specs.Flat.{secondIn, pairedIn, movesIn, startIn, layerIn, layersIn, solveIn, steppedIn, baseFor, pairIn}
+use Rattle.coord.specs.Inner.Rows.{coordIn, tableOf, regretsOf, distsOf, weightsOf, ranksOf, oddsOf, upsOf}
+use Rattle.solve.specs.Inner.Flat.{placeOf, placesOf, spot, topIn, regretAt, parIn, towardIn, fixIn, baseIn, distIn, stepIn, turnIn}
+use Rattle.solve.specs.Inner.Flat.{secondIn, pairedIn, movesIn, startIn, layerIn, layersIn, solveIn, steppedIn, baseFor, pairIn}
 use Rattle.solve.specs.Inner.{Apart, Flanked}
 
 -- ---- the two largest regrets are of two different coordinates
@@ -112,7 +113,7 @@ module _ {regret dist : List Float} {weight rank odd : List ℕ} {up : List Bool
       (rw (h .distIs n (slotOf j0 fix n) (omega arith) l5, base-is j0 fix i n (omega arith)))
 
   -- one paired step
-  step-is : (bound : Closed) (n : Now) (best : Best) (j f f′ j2 g g′ : ℕ) → j < 8 → f < 5 → f′ < 5 → j2 < 8 → g < 5 → g′ < 5
+  step-is : (bound : Closed) (n : Candidate) (best : Best) (j f f′ j2 g g′ : ℕ) → j < 8 → f < 5 → f′ < 5 → j2 < 8 → g < 5 → g′ < 5
       → stepIn (distIn dist (n .dist) (spot at j f) (spot at j f′) (spot at j2 g) (spot at j2 g′)) weight rank bound n best
       j (spot at j f) (spot at j f′) j2 (spot at j2 g) (spot at j2 g′)
       ≡ stepOf (coordAt e j) (coordAt e j2) bound n best j f f′ j2 g g′
@@ -123,7 +124,7 @@ module _ {regret dist : List Float} {weight rank odd : List ℕ} {up : List Bool
       (rw (h .rankIs j f′ hj hf′, h .rankIs j2 g′ hj2 hg′)))
 
   -- step i of the sixteen is one of the two of turn i / 2
-  module _ (top : Top) (fix : ℕ) (bound : Closed) (n : Now) (l0 : top .j0 < 8) (l1 : top .j1 < 8) (flanked : Flanked fix) where
+  module _ (top : Top) (fix : ℕ) (bound : Closed) (n : Candidate) (l0 : top .j0 < 8) (l1 : top .j1 < 8) (flanked : Flanked fix) where
     move-is : (best : Best) (i j j2 : ℕ) → i / 2 ≡ j → otherOf j (top .j0) (top .j1) ≡ j2 → j < 8
         → stepIn
         (distIn dist (n .dist) (spot at j (slotOf (top .j0) fix j)) (spot at j (slotOf (top .j0) fix j + 2 * (i % 2) - 1))
@@ -189,7 +190,7 @@ module _ {regret dist : List Float} {weight rank odd : List ℕ} {up : List Bool
       _ 8 (omega arith))
 
   -- ---- the base of a parity
-  stepped-is : (s : Now) (j : ℕ) → j < 8 → steppedIn dist weight rank up at s j ≡ stepped (coordAt e j) s j
+  stepped-is : (s : Candidate) (j : ℕ) → j < 8 → steppedIn dist weight rank up at s j ≡ stepped (coordAt e j) s j
   unfolding steppedIn stepped
   stepped-is s j l =
       let t = toward-flanked (getD up (getD at j 0) false) in

@@ -10,26 +10,26 @@ ghost use mathlib.Core.Bool.{cond};
 ghost use Prim.Native.Nat.{ℕ, _<_, _≤_, _+_, _*_, _-_, _%_, _^_, min};
 ghost use lib.ListN.{getD};
 ghost use lib.Dec.{eqb};
-ghost use Rattle.laws.specs.Lists.{tab};
+ghost use Rattle.laws.specs.Words.{tab};
 ghost use Rattle.search.specs.Record.{bitAt};
 ghost use Rattle.search.specs.Bound.{lexOf};
 ghost use Rattle.search.specs.Bound as search;
 ghost use Rattle.search.specs.Base.{slotOf, keySet, baseBest};
 ghost use Rattle.search.specs.Solve.{keyMoved, otherOf, keptBase, unmet, foundOf};
-ghost use Rattle.solve.specs.Flat.{swapBytes, placesOf, spot, topIn, parIn, fixIn, baseIn, stepIn, turnIn, movesIn};
-ghost use Rattle.solve.specs.Flat.{startIn, layerIn, solveIn, steppedIn, pairIn};
+ghost use Rattle.solve.specs.Inner.Flat.{swapBytes, placesOf, spot, topIn, parIn, fixIn, baseIn, stepIn, turnIn, movesIn};
+ghost use Rattle.solve.specs.Inner.Flat.{startIn, layerIn, solveIn, steppedIn, pairIn};
 ghost use Rattle.solve.specs.Inner.{Placed, Apart, Flanked, Covered, Ready};
 use search::Best;
+use search::Candidate;
 use search::Closed;
 use search::Found;
-use search::Now;
 use search::Top;
 
 // One shrink before its steps: the two least decided coordinates, the slot of the first, the base.
 struct Start {
     top: Top,
     fix: usize,
-    n: Now,
+    n: Candidate,
 }
 
 // The bases of a pattern for an even and an odd sum of k.
@@ -115,8 +115,8 @@ fn second(g: usize, t: usize) -> usize
 fn more(n: usize) -> usize
     ensures { λ r. ⌜ (r ≡ min n 8 - 1) × (r < 8) ⌝ }
 {
-    if 8 <= n {
-        return 7;
+    if search::SHRINKS <= n {
+        return search::SHRINKS - 1;
     }
     if n == 0 {
         return 0;
@@ -142,7 +142,7 @@ fn swap_bytes(x: u32) -> u32
 }
 
 // The ranks of a packed row as one number, coordinate 0 most significant: the two nibbles of each byte swapped, then the four bytes.
-fn lex(key: u32) -> u32
+pub fn lex(key: u32) -> u32
     ensures { λ r. ⌜ r ≡ lexOf key ⌝ }
 {
     let swapped = ((key & 0x0f0f0f0f) << 4) | ((key >> 4) & 0x0f0f0f0f);
@@ -260,7 +260,7 @@ fn base_at(
     at: &[usize; 8],
     j0: usize,
     fix: usize,
-) -> Now
+) -> Candidate
     requires { ⌜ Placed (now at) ⌝ }
     requires { ⌜ Flanked fix ⌝ }
     ensures { λ r. ⌜
@@ -276,7 +276,7 @@ fn base_at(
         key = key | nibble(rank_at(rank, i), j);
         d = d + dist[i];
     }
-    Now { cost, key, dist: d }
+    Candidate { cost, key, dist: d }
 }
 
 // One paired step, to a candidate at distance d: coordinate j from place a to a2, coordinate j2 from place b to b2.
@@ -285,7 +285,7 @@ fn step(
     weight: &[u16; 640],
     rank: &[u8; 640],
     bound: Closed,
-    n: Now,
+    n: Candidate,
     best: Best,
     j: usize,
     a: usize,
@@ -320,7 +320,7 @@ fn turn(
     weight: &[u16; 640],
     rank: &[u8; 640],
     bound: Closed,
-    n: Now,
+    n: Candidate,
     best: Best,
     j: usize,
     a: usize,
@@ -353,7 +353,7 @@ fn moves(
     top: Top,
     fix: usize,
     bound: Closed,
-    n: Now,
+    n: Candidate,
     start: Best,
 ) -> Best
     requires { ⌜ Placed (now at) ⌝ }
@@ -417,7 +417,7 @@ fn begin(
 }
 
 // The base in place of the best, where it is a member and strictly nearer.
-fn kept(bound: Closed, n: Now, best: Best) -> Best
+fn kept(bound: Closed, n: Candidate, best: Best) -> Best
     ensures { λ r. ⌜ r ≡ keptBase bound n best ⌝ }
 {
     if holds(bound, n.cost, n.key) {
@@ -525,9 +525,9 @@ fn stepped(
     rank: &[u8; 640],
     up: &[bool; 128],
     at: &[usize; 8],
-    s: Now,
+    s: Candidate,
     j: usize,
-) -> Now
+) -> Candidate
     requires { ⌜ Placed (now at) ⌝ }
     requires { ⌜ j < 8 ⌝ }
     requires { ⌜ (getD (now weight) (spot (now at) j 2) 0 ≤ s .cost) × (s .cost < 600000) ⌝ }
@@ -540,7 +540,7 @@ fn stepped(
     let b = 5 * i + toward(up[i]);
     let cost = s.cost - weight_at(weight, a) + weight_at(weight, b);
     let key = key_set(s.key, j, rank_at(rank, b));
-    Now {
+    Candidate {
         cost,
         key,
         dist: s.dist - dist[a] + dist[b],
@@ -548,7 +548,7 @@ fn stepped(
 }
 
 // A base, and whether it is a member.
-fn base_best(bound: Closed, n: Now) -> Best
+fn base_best(bound: Closed, n: Candidate) -> Best
     ensures { λ r. ⌜ r ≡ baseBest bound n ⌝ }
 {
     Best {

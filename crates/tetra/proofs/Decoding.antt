@@ -6,7 +6,7 @@ use native.Mathlib.Nat.{pow-suc, mul-assoc, mul-comm}
 use native.Mathlib.Omega.{arith}
 use lib.IntN.{ℤ, pos}
 use lib.ListN.{length, getD, length-append, List·getD-append}
-use Rattle.laws.specs.Lists.{append-past}
+use Rattle.laws.specs.Laws.Lists.{append-past}
 use Rattle.word.specs.Word.{Narrow}
 use Rattle.word.specs.declared.Fields.{Fields}
 use Rattle.rank.specs.Coord.{valOf}

@@ -7,8 +7,8 @@ use native.Mathlib.Omega.{arith}
 use lib.Dec.{T}
 use lib.IntN.{ℤ, pos}
 use lib.ListN.{length, getD, take, drop, length-map}
-use Rattle.laws.specs.Tests.{true-is}
-use Rattle.laws.specs.Whole.{mod2-lt}
+use Rattle.laws.specs.Laws.Tests.{true-is}
+use Rattle.laws.specs.Laws.Whole.{mod2-lt}
 use Rattle.word.specs.Word.{Narrow, wordOf}
 use Rattle.rank.specs.Coord.{parityOf, rankOf}
 use Rattle.rank.specs.Vector.{class, inMiddle}

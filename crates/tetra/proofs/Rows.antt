@@ -8,7 +8,7 @@ use lib.Dec.{eqb}
 use lib.IntN.{ℤ, pos}
 use lib.ListN.{length, getD, set, take, drop, drop-of-length-le, length-map, length-drop, length-set}
 use lib.Seq.{ext-getD, getD-take, getD-drop, length-take-le}
-use Rattle.laws.specs.Lists.{filled-more, drop-next, map-at}
+use Rattle.laws.specs.Laws.Lists.{filled-more, drop-next, map-at}
 use Rattle.rank.specs.Coord.{parityOf, bitOf}
 use Rattle.rank.specs.Section.{uniform, bitsOf}
 use Rattle.rank.specs.Answers.{markOf, marksOf}

@@ -6,7 +6,8 @@ use native.Mathlib.Omega.{arith}
 use lib.IntN.{ℤ, pos}
 use lib.ListN.{length, getD, take, drop, length-drop}
 use lib.Seq.{length-take-le, getD-take, getD-drop}
-use Rattle.laws.specs.Lists.{tab, filled}
+use Rattle.laws.specs.Words.{tab}
+use Rattle.laws.specs.Laws.Lists.{filled}
 
 -- those from place `from` on, 0 for each that stands past the end
 abbrev pub blockAt : List ℤ → ℕ → List ℤ

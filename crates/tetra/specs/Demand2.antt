@@ -11,7 +11,7 @@ use lib.Pow.{shr-shr}
 use lib.Dec.{T}
 use lib.IntN.{ℤ, pos, natAbs}
 use lib.ListN.{length, getD}
-use Rattle.laws.specs.Tests.{is-true, is-false}
+use Rattle.laws.specs.Laws.Tests.{is-true, is-false}
 use Rattle.refusal.specs.Refusal.{noWord}
 use Rattle.word.specs.Word.{fieldsOf, wordOf}
 use Rattle.word.specs.Laws.{split-narrow, split-join, no-gain-split, no-gain-lt}

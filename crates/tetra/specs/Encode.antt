@@ -5,7 +5,7 @@ use Prim.Native.Nat.{ℕ}
 use lib.Dec.{ltb, eqb}
 use lib.IntN.{ℤ, pos}
 use lib.ListN.{getD}
-use Rattle.laws.specs.Whole.{modZ}
+use Rattle.laws.specs.Words.{modZ}
 use Rattle.refusal.specs.Refusal.{noWord}
 use Rattle.word.specs.Word.{wordOf}
 use Rattle.word.specs.declared.Fields.{Fields}

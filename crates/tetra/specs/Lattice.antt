@@ -8,11 +8,11 @@ use Prim.Native.Nat.{ℕ, _*_, _<_}
 use lib.Dec.{T}
 use lib.IntN.{ℤ, pos}
 use lib.ListN.{length, getD, take, drop}
-use Rattle.laws.specs.Whole.{modZ}
+use Rattle.laws.specs.Words.{modZ}
 use Rattle.rank.specs.Coord.{parityOf}
 use Rattle.rank.specs.Vector.{class, inClass, inMiddle}
 use Rattle.rank.specs.Section.{bitsOf, ranksOf, kSum}
-use Rattle.trellis.specs.Code.{wordOf, columns}
+use Rattle.trellis.specs.Code.{codewordOf, columns}
 use Rattle.trellis.specs.Trio.{order}
 
 -- the coordinates in trio order: the set bits of each octad ascending, in the order of the octads
@@ -22,7 +22,7 @@ trio y = map (λ (i : ℕ). getD y i (pos 0)) order
 -- a codeword in trio order: the exclusive-or of the columns at the set bits of a label
 pub record Codeword (c : ℕ) : Type 0 where
   pub label : ℕ
-  pub made : wordOf columns label ≡ c
+  pub made : codewordOf columns label ≡ c
 
 -- a lattice point, y = p + 2c + 4k in each coordinate: all coordinates of one parity p, a codeword of bits c, and a sum of k congruent to
 -- p mod 2. Halving and remainder follow the floor.

@@ -6,14 +6,14 @@ use Prim.Native.Nat.{ℕ, _^_}
 use borrow.Author.Tests.{lt-ltb}
 use lib.Dec.{T, eqb, ltb, eqb→eq}
 use lib.IntN.{ℤ, pos, negsuc}
-use Rattle.laws.specs.Tests.{eq→eqb, true-is}
-use Rattle.laws.specs.Lists.{tab}
+use Rattle.laws.specs.Laws.Tests.{eq→eqb, true-is}
+use Rattle.laws.specs.Words.{tab}
 use Rattle.word.specs.Word as word
 use Rattle.rank.specs.Coord.{valOf, rankOf}
 use Rattle.rank.specs.Section.{pointAt, uniform, bitsOf, kSum}
 use Rattle.rows.specs.Rows.{rows}
 use Rattle.rows.specs.Table.{rowRanks, middleClass, middleRow}
-use Rattle.trellis.specs.Code.{wordOf, columns}
+use Rattle.trellis.specs.Code.{codewordOf, columns}
 use Rattle.trellis.specs.Laws.Code.{backColumns, back-at, label-low}
 use Rattle.trellis.specs.Trio.{order, places}
 use Rattle.trellis.specs.Trellis.{labelOf}
@@ -25,22 +25,22 @@ use Rattle.tetra.specs.Laws.Word.{code-label}
 
 -- ---- the tests, computed: the way back by columns tells a codeword with no walk over the 4,096
 byColumns : ℕ → Bool
-byColumns c = eqb (wordOf columns (wordOf backColumns c)) c
+byColumns c = eqb (codewordOf columns (codewordOf backColumns c)) c
 
 code-by : (c : ℕ) → ltb (labelOf c) 4096 ≡ byColumns c
 unfolding byColumns
-code-by c = go (eqb (wordOf columns (wordOf backColumns c)) c) refl
+code-by c = go (eqb (codewordOf columns (codewordOf backColumns c)) c) refl
   where
-    go : (b : Bool) → eqb (wordOf columns (wordOf backColumns c)) c ≡ b → ltb (labelOf c) 4096 ≡ b
+    go : (b : Bool) → eqb (codewordOf columns (codewordOf backColumns c)) c ≡ b → ltb (labelOf c) 4096 ≡ b
     go true e =
-        lt-ltb (labelOf c) 4096 (code-label c (record { label = wordOf backColumns c; made = eqb→eq _ c (true-is _ e) }))
+        lt-ltb (labelOf c) 4096 (code-label c (record { label = codewordOf backColumns c; made = eqb→eq _ c (true-is _ e) }))
     go false e =
         ap (λ (x : ℕ). ltb x 4096)
         (label-none c .1
         (λ x h q.
         subst T e
-        (eq→eqb (wordOf columns (wordOf backColumns c)) c
-        (ap (wordOf columns) (ap (wordOf backColumns) (sym q) ∙ back-at x) ∙ label-low x ∙ q))))
+        (eq→eqb (codewordOf columns (codewordOf backColumns c)) c
+        (ap (codewordOf columns) (ap (codewordOf backColumns) (sym q) ∙ back-at x) ∙ label-low x ∙ q))))
 
 refused-by : (y : List ℤ) → (oneParity y && (byColumns (bitsOf (trio y)) && (inBounds y && rightSum y))) ≡ false → encodeOf y ≡ refused
 unfolding encodeOf encodable inCode
@@ -74,7 +74,7 @@ pub P :
     × (encodeOf (point (at (pos 2) (0 ∷ []) (all (pos 0)))) ≡ refusedWith 5)
     × (encodeOf (point (at (pos 1) (0 ∷ []) (all (pos 0)))) ≡ refusedWith 5)
     × (encodeOf (point (at (pos 12) (0 ∷ []) (at (pos 4) (1 ∷ []) (all (pos 0))))) ≡ refusedWith 5)
-unfolding tab word.cut valOf rankOf pointAt uniform bitsOf kSum rows rowRanks middleClass middleRow columns backColumns order places
+unfolding tab word.fieldAt valOf rankOf pointAt uniform bitsOf kSum rows rowRanks middleClass middleRow columns backColumns order places
     trio codewordAt thirdClass ranksAt trioPoint natural trioPointOf pointOf oneParity inBounds rightSum byColumns
 P = (
   refl,

@@ -7,13 +7,13 @@ use Rattle.word.specs.Word.{fieldsOf}
 use Rattle.word.specs.declared.Fields.{Fields}
 use Rattle.rank.specs.Section.{pointAt}
 use Rattle.rows.specs.Table.{rowRanks, middleClass, middleRow}
-use Rattle.trellis.specs.Code.{wordOf, columns, label, first, second, third}
+use Rattle.trellis.specs.Code.{codewordOf, columns, label, first, second, third}
 use Rattle.trellis.specs.Trio.{places}
 use Rattle.tetra.specs.declared.Bytes.{Bytes}
 
 -- ---- the codeword that a word's fields name
 unfoldable pub codewordAt : Fields → ℕ
-codewordAt f = wordOf columns (label (f .s8) (f .b1) (f .b2) (f .b3))
+codewordAt f = codewordOf columns (label (f .s8) (f .b1) (f .b2) (f .b3))
 
 -- ---- the ranks that they name: row i1 of class r, the middle's row i2, and row i3 of the third class
 -- p xor r xor the middle class

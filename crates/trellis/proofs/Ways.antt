@@ -1,52 +1,49 @@
 -- What the functions of the way back find, over plain numbers. Assumes nothing.
-use mathlib.Core.Path.{_≡_, _∙_, sym, ap}
-use mathlib.Core.Bool.{Bool}
-use mathlib.Core.List.{List}
+use mathlib.Core.Path.{_≡_, _∙_, sym, ap, ap₂}
+use mathlib.Core.Bool.{Bool, _&&_}
 use Prim.Native.Nat.{ℕ, zero, suc, _/_, _%_, _<_, _≤_}
 use native.Mathlib.Nat.{mod-eq-of-lt}
 use native.Mathlib.Omega.{arith}
 use lib.Dec.{T, eqb, eqb→eq}
-use lib.ListN.{getD}
-use Rattle.laws.specs.Tests.{upto, below2}
-use Rattle.laws.specs.Lists.{tab, tab-at}
-use Rattle.trellis.specs.Code.{wordOf, columns}
+use Rattle.laws.specs.Laws.Tests.{and-left, and-right, upto, below2}
+use Rattle.trellis.specs.Code.{codewordOf, columns}
 use Rattle.trellis.specs.Tables.{prefixes, middles}
-use Rattle.trellis.specs.Trellis.{middleOf, branchOf, suffixOf, openingOf, passageOf, closingOf, lookUp, labelOf}
+use Rattle.trellis.specs.Trellis.{prefixOf, middleOf, branchOf, suffixOf, s8Of, b1Of, openingOf, passageOf, closingOf, labelOf}
 use Rattle.trellis.specs.Laws.Code.{backColumns, back-at, back-lt}
-use Rattle.trellis.specs.Laws.Path.{prefixes-length}
-use Rattle.trellis.specs.Laws.Look.{look-at, look-out, look-none}
-use Rattle.trellis.specs.Laws.Back.{prefixes-distinct, passage-by, passage-iff, passage-none, closing-by, closing-iff, closing-none}
+use Rattle.trellis.specs.Laws.Back.{opening-by, opening-iff, opening-none}
+use Rattle.trellis.specs.Laws.Back.{passage-by, passage-iff, passage-none, closing-by, closing-iff, closing-none}
 use Rattle.trellis.specs.Laws.Back.{label-iff, label-none}
 use Rattle.trellis.specs.declared.Edge.{Edge}
-use Rattle.trellis.specs.declared.Opening.{Opening}
 use Rattle.trellis.specs.declared.Opening.the-variants.{From, NoState}
 use Rattle.trellis.specs.declared.Passage.the-variants.{Along, NoBranch}
 use Rattle.trellis.specs.declared.Closing.the-variants.{By, NoSuffix}
 
--- ---- a prefix byte: the place of each byte among the prefixes, 255 where it stands nowhere
-abbrev placeOf : ℕ → ℕ
-placeOf c = lookUp (λ (k : ℕ). k) 255 prefixes c
+-- ---- a prefix byte: the way back finds its state and its bit by the first byte alone
+found : ℕ → ℕ → Bool
+found s b = eqb (s8Of (codewordOf backColumns (prefixOf s b))) s && eqb (b1Of (codewordOf backColumns (prefixOf s b))) b
 
-unfoldable pub prefixPlaces : List ℕ
-prefixPlaces = tab placeOf 256
+all-found : T (upto 64 (λ (s : ℕ). upto 2 (found s)))
+unfolding found prefixOf prefixes backColumns
+all-found = tt
 
-place-at : (c i : ℕ) → c < 256 → i ≡ getD prefixPlaces c 0 → placeOf c ≡ i
-unfolding prefixPlaces
-place-at c i h e = sym (e ∙ tab-at ℕ 0 placeOf 256 c h)
+found-at : (s b : ℕ) → s < 64 → b < 2
+    → (s8Of (codewordOf backColumns (prefixOf s b)) ≡ s) × (b1Of (codewordOf backColumns (prefixOf s b)) ≡ b)
+unfolding found
+found-at s b h k =
+    let w = codewordOf backColumns (prefixOf s b) in
+    let t = below2 64 2 found all-found s b h k in
+    (eqb→eq _ _ (and-left (eqb (s8Of w) s) (eqb (b1Of w) b) t), eqb→eq _ _ (and-right (eqb (s8Of w) s) (eqb (b1Of w) b) t))
 
-pub open-found : (c i : ℕ) → c < 256 → i ≡ getD prefixPlaces c 0 → (i ≡ 255 → ⊥) → From (i / 2) (i % 2) ≡ openingOf c
-unfolding openingOf
-open-found c i h e n =
-    look-out ℕ (λ (k : ℕ). k) 255 prefixes c i (From (i / 2) (i % 2) ≡ openingOf c) (λ q. n (sym q))
-    (λ k l q r. ap (λ (m : ℕ). From (m / 2) (m % 2)) (sym r)
-    ∙ sym (look-at Opening (λ (m : ℕ). From (m / 2) (m % 2)) NoState prefixes c prefixes-distinct k l q))
-    (place-at c i h e)
+pub open-found : (c s b r : ℕ) → r ≡ prefixOf s b → s < 64 → b < 2 → r ≡ c → From s b ≡ openingOf c
+open-found c s b r e h k q = sym (opening-by _ (From s b) (opening-iff c s b .1 (h, k, sym e ∙ q)))
 
-pub open-none : (c i : ℕ) → c < 256 → i ≡ getD prefixPlaces c 0 → i ≡ 255 → NoState ≡ openingOf c
-unfolding openingOf
-open-none c i h e s =
-    sym (look-none Opening (λ (m : ℕ). From (m / 2) (m % 2)) NoState prefixes c
-    (λ k l q. omega (arith, place-at c i h e, look-at ℕ (λ (m : ℕ). m) 255 prefixes c prefixes-distinct k l q, prefixes-length)))
+pub open-none : (c x r : ℕ) → x ≡ codewordOf backColumns c → r ≡ prefixOf (s8Of x) (b1Of x) → (r ≡ c → ⊥) → NoState ≡ openingOf c
+open-none c x r ex e n =
+    sym (opening-by _ NoState
+    (opening-none c .1 (λ s b h k q.
+    let f = found-at s b h k in
+    let w = ex ∙ ap (codewordOf backColumns) (sym q) in
+    n (e ∙ ap₂ prefixOf (ap s8Of w ∙ f .0) (ap b1Of w ∙ f .1) ∙ q))))
 
 -- ---- a middle byte: its high half is its place among those of the state
 high : ℕ → ℕ → Bool
@@ -90,10 +87,10 @@ close-none s c r t e f n m = sym (closing-by _ NoSuffix (closing-none s c .1 go)
     go (suc (suc b)) h k q = omega arith
 
 -- ---- a codeword: its label by the columns of the way back, if that label's codeword is the word
-pub label-found : (w x y : ℕ) → x ≡ wordOf backColumns w → y ≡ wordOf columns x → y ≡ w → x ≡ labelOf w
+pub label-found : (w x y : ℕ) → x ≡ codewordOf backColumns w → y ≡ codewordOf columns x → y ≡ w → x ≡ labelOf w
 label-found w x y ex ey e = sym (label-iff w x (omega (arith, back-lt w)) .1 (sym ey ∙ e))
 
-pub label-lost : (w x y : ℕ) → x ≡ wordOf backColumns w → y ≡ wordOf columns x → (y ≡ w → ⊥) → 4096 ≡ labelOf w
+pub label-lost : (w x y : ℕ) → x ≡ codewordOf backColumns w → y ≡ codewordOf columns x → (y ≡ w → ⊥) → 4096 ≡ labelOf w
 label-lost w x y ex ey n =
     sym (label-none w .1 (λ z h e.
-    n (ey ∙ ap (wordOf columns) (ex ∙ ap (wordOf backColumns) (sym e) ∙ back-at z ∙ mod-eq-of-lt h) ∙ e)))
+    n (ey ∙ ap (codewordOf columns) (ex ∙ ap (codewordOf backColumns) (sym e) ∙ back-at z ∙ mod-eq-of-lt h) ∙ e)))

@@ -5,7 +5,7 @@ use mathlib.Core.List.{List, [], _∷_}
 use Prim.Native.Nat.{ℕ, _+_, _*_, _/_, _%_}
 use lib.Dec.{eqb}
 use lib.Bits.{bitXor}
-use Rattle.laws.specs.Lists.{tab}
+use Rattle.laws.specs.Words.{tab}
 
 -- ---- codewords
 -- column i belongs to bit i of a label
@@ -15,13 +15,13 @@ columns =
     ∷ 0xff0000 ∷ []
 
 -- the exclusive-or of the columns at the set bits of x; a bit past the last column names none, and is left out
-abbrev pub wordOf : List ℕ → ℕ → ℕ
-wordOf [] x = 0
-wordOf (c ∷ cs) x = bitXor (c * (x % 2)) (wordOf cs (x / 2))
+abbrev pub codewordOf : List ℕ → ℕ → ℕ
+codewordOf [] x = 0
+codewordOf (c ∷ cs) x = bitXor (c * (x % 2)) (codewordOf cs (x / 2))
 
 -- all codewords, in the order of their labels
 unfoldable pub codewords : List ℕ
-codewords = tab (wordOf columns) 4096
+codewords = tab (codewordOf columns) 4096
 
 -- ---- labels: s8, b1, b2, b3 packed at 0, 6, 7, 11
 abbrev pub label : ℕ → ℕ → ℕ → ℕ → ℕ

@@ -4,6 +4,7 @@ pub mod Linear
 pub mod Words
 pub mod Code
 pub mod Path
+pub mod Rows
 pub mod States
 pub mod Look
 pub mod Back

@@ -5,7 +5,7 @@ use mathlib.Core.List.{List, [], _∷_}
 use Prim.Native.Nat.{ℕ, _+_, _*_, _/_, _%_}
 use lib.Dec.{ltb}
 use lib.ListN.{length, getD, take, drop}
-use Rattle.laws.specs.Lists.{seek}
+use Rattle.laws.specs.Words.{tab, seek}
 use Rattle.trellis.specs.Code.{codewords}
 use Rattle.trellis.specs.Tables.{prefixes, middles, nexts, suffixes}
 use Rattle.trellis.specs.declared.Edge.{Edge}
@@ -20,6 +20,10 @@ use Rattle.trellis.specs.declared.Closing.the-variants.{By, NoSuffix}
 -- row s of a table with n entries a row: no entries where the table has no row s
 abbrev pub row : ℕ → List ℕ → ℕ → List ℕ
 row n table s = take n (drop (n * s) table)
+
+-- the 64 rows of a table of pairs
+unfoldable pub pairsOf : List ℕ → List (List ℕ)
+pairsOf table = tab (row 2 table) 64
 
 -- an entry of a row, 0 where there is none: the prefix byte of state s8 and bit b1,
 unfoldable pub prefixOf : ℕ → ℕ → ℕ
@@ -36,6 +40,13 @@ nextOf s8 b2 = getD (row 16 nexts s8) b2 0
 -- and the suffix byte of state s16 and bit b3
 unfoldable pub suffixOf : ℕ → ℕ → ℕ
 suffixOf s16 b3 = getD (row 2 suffixes s16) b3 0
+
+-- the middle bytes of the states 0, 8, .., 56, and the next states of the states 0 to 7, row after row
+unfoldable pub middleSets : List ℕ
+middleSets = tab (λ (i : ℕ). middleOf (8 * (i / 16)) (i % 16)) 128
+
+unfoldable pub firstNexts : List ℕ
+firstNexts = tab (λ (i : ℕ). nextOf (i / 16) (i % 16)) 128
 
 -- the word of a path, c1 + 256 c2 + 65536 c3
 abbrev pub path : ℕ → ℕ → ℕ → ℕ → ℕ

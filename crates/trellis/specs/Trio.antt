@@ -3,7 +3,7 @@ use mathlib.Core.Bool.{true, false}
 use mathlib.Core.List.{List, [], _∷_, _++_}
 use Prim.Native.Nat.{ℕ, zero, suc, _/_, _%_}
 use lib.Dec.{eqb}
-use Rattle.laws.specs.Lists.{tab, seek}
+use Rattle.laws.specs.Words.{tab, seek}
 
 -- three octads: bit i of each stands for coordinate i
 abbrev pub octad1 : ℕ

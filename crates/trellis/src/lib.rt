@@ -1,14 +1,21 @@
 // The Golay code in trio order: codewords by columns, the trellis of three sections by tables, and the ways back.
-mod table;
+mod tables;
 
 ghost use mathlib.Core.Path.{_≡_};
 ghost use Prim.Native.Nat.{_≤_};
 ghost use lib.ListN.{length, getD};
-ghost use Rattle.trellis.specs.Code.{wordOf, columns, inputOf};
+ghost use Rattle.trellis.specs.Code.{codewordOf, columns, inputOf};
 ghost use Rattle.trellis.specs.Trio.{order, places};
 ghost use Rattle.trellis.specs.Tables as tables;
+ghost use Rattle.trellis.specs.Laws.Code.{backColumns};
+ghost use Rattle.trellis.specs.Laws.Rows.{sumsOf};
 ghost use Rattle.trellis.specs.Trellis.{
+  pairsOf,
+  middleSets,
+  firstNexts,
   prefixOf,
+  middleOf,
+  nextOf,
   branchOf,
   suffixOf,
   openingOf,
@@ -64,7 +71,7 @@ const BACK: [u32; 17] = [
 // The exclusive-or of the columns at the set bits of `x`, from the last column to the first.
 fn combine(cs: &[u32], x: u32) -> u32
     requires { ⌜ length (now cs) ≤ 32 ⌝ }
-    ensures { λ r. ⌜ r ≡ wordOf (now (cs .entry)) x ⌝ }
+    ensures { λ r. ⌜ r ≡ codewordOf (now (cs .entry)) x ⌝ }
 {
     let mut acc: u32 = 0;
     let mut j: usize = cs.len();
@@ -79,18 +86,25 @@ fn combine(cs: &[u32], x: u32) -> u32
 
 // The codeword of the label `x`. Bits of `x` past the twelfth name no column, and are left out.
 pub fn codeword(x: u32) -> u32
-    ensures { λ r. ⌜ r ≡ wordOf columns x ⌝ }
+    ensures { λ r. ⌜ r ≡ codewordOf columns x ⌝ }
 {
     let cs = COLUMNS;
     combine(&cs, x)
+}
+
+// The word of the columns of the way back: the label of `c` where `c` is a codeword.
+fn back(c: u32) -> u32
+    ensures { λ r. ⌜ r ≡ codewordOf backColumns c ⌝ }
+{
+    let cs = BACK;
+    combine(&cs, c)
 }
 
 // The label below 4096 whose codeword is `c`, or 4096 where `c` is no codeword.
 pub fn label_of(c: u32) -> u32
     ensures { λ r. ⌜ r ≡ labelOf c ⌝ }
 {
-    let cs = BACK;
-    let x = combine(&cs, c);
+    let x = back(c);
     if codeword(x) == c {
         return x;
     }
@@ -105,7 +119,7 @@ pub fn order(j: usize) -> usize
     if 24 <= j {
         return 0;
     }
-    table::ORDER[j]
+    tables::ORDER[j]
 }
 
 // The place of coordinate `i` in trio order; 0 past the last coordinate.
@@ -115,7 +129,7 @@ pub fn place(i: usize) -> usize
     if 24 <= i {
         return 0;
     }
-    table::PLACES[i]
+    tables::PLACES[i]
 }
 
 // ---- the trellis
@@ -135,22 +149,43 @@ pub fn prefix(s8: usize, b1: usize) -> u8
     if 2 <= b1 {
         return 0;
     }
-    table::PREFIXES[2 * s8 + b1]
+    tables::PREFIXES[s8][b1]
+}
+
+// The middle byte of branch `b2` out of state `s8`; 0 where there is none.
+pub fn middle(s8: usize, b2: usize) -> u8
+    ensures { λ r. ⌜ r ≡ middleOf s8 b2 ⌝ }
+{
+    if 64 <= s8 {
+        return 0;
+    }
+    if 16 <= b2 {
+        return 0;
+    }
+    tables::MIDDLES[b2] ^ tables::SETS[s8 / 8]
+}
+
+// The state at cut 16 that branch `b2` out of state `s8` leads to; 0 where there is none. The state of a sum of codewords is the sum of their
+// states: s8 / 8 stands for three columns of its own, s8 % 8 for those of the first eight branches.
+fn next(s8: usize, b2: usize) -> u8
+    ensures { λ r. ⌜ r ≡ nextOf s8 b2 ⌝ }
+{
+    if 64 <= s8 {
+        return 0;
+    }
+    if 16 <= b2 {
+        return 0;
+    }
+    let by = tables::NEXTS;
+    ((s8 / 8) as u8) ^ by[s8 % 8] ^ by[b2]
 }
 
 // The branch `b2` out of state `s8`; zeros where there is none.
 pub fn branch(s8: usize, b2: usize) -> Edge
     ensures { λ r. ⌜ r ≡ branchOf s8 b2 ⌝ }
 {
-    if 64 <= s8 {
-        return Edge { byte: 0, s16: 0 };
-    }
-    if 16 <= b2 {
-        return Edge { byte: 0, s16: 0 };
-    }
-    let i = 16 * s8 + b2;
-    let byte = table::MIDDLES[i];
-    let s16 = table::NEXTS[i];
+    let byte = middle(s8, b2);
+    let s16 = next(s8, b2);
     Edge { byte, s16 }
 }
 
@@ -164,28 +199,51 @@ pub fn suffix(s16: usize, b3: usize) -> u8
     if 2 <= b3 {
         return 0;
     }
-    table::SUFFIXES[2 * s16 + b3]
+    tables::SUFFIXES[s16][b3]
 }
 
-// The tables whole, for a search that reads them again and again: a constant array is made anew wherever it is read. The prefixes at 2 s8 + b1,
-pub fn prefixes() -> [u8; 128]
-    ensures { λ r. ⌜ r ≡ tables.prefixes ⌝ }
+// The tables whole, for a search that reads them again and again: a constant array is made anew wherever it is read. The two prefix bytes of
+// each state at cut 8,
+pub fn prefixes() -> [[u8; 2]; 64]
+    ensures { λ r. ⌜ r ≡ pairsOf tables.prefixes ⌝ }
 {
-    table::PREFIXES
+    tables::PREFIXES
 }
 
-// the states at cut 16 that the branches lead to, at 16 s8 + b2,
-pub fn nexts() -> [u8; 1024]
-    ensures { λ r. ⌜ r ≡ tables.nexts ⌝ }
+// the two suffix bytes of each state at cut 16,
+pub fn suffixes() -> [[u8; 2]; 64]
+    ensures { λ r. ⌜ r ≡ pairsOf tables.suffixes ⌝ }
 {
-    table::NEXTS
+    tables::SUFFIXES
 }
 
-// and the suffixes at 2 s16 + b3.
-pub fn suffixes() -> [u8; 128]
-    ensures { λ r. ⌜ r ≡ tables.suffixes ⌝ }
+// Each of `first` added to all of `row`, one after the other.
+fn sums(first: &[u8; 8], row: &[u8; 16]) -> [u8; 128]
+    ensures { λ r. ⌜ r ≡ sumsOf (now (first .entry)) (now (row .entry)) ⌝ }
 {
-    table::SUFFIXES
+    let mut out = [0u8; 128];
+    for i in 0..128usize {
+        out[i] = row[i % 16] ^ first[i / 16];
+    }
+    out
+}
+
+// the eight sets of sixteen middle bytes, those of the states 0, 8, .., 56,
+pub fn middle_sets() -> [u8; 128]
+    ensures { λ r. ⌜ r ≡ middleSets ⌝ }
+{
+    let row = tables::MIDDLES;
+    let first = tables::SETS;
+    sums(&first, &row)
+}
+
+// and the states at cut 16 that the branches out of the states 0 to 7 lead to. State s leads where state s % 8 does, with the bits of s / 8 turned.
+pub fn nexts() -> [u8; 128]
+    ensures { λ r. ⌜ r ≡ firstNexts ⌝ }
+{
+    let row = tables::NEXTS;
+    let first = tables::FIRST_NEXTS;
+    sums(&first, &row)
 }
 
 // ---- the ways back, as enums where the Rust has an Option
@@ -207,15 +265,17 @@ pub enum Closing {
     NoSuffix,
 }
 
-// The state and the bit of the prefix byte `c1`.
+// The state and the bit of the prefix byte `c1`: the first bits of a label, which the way back finds by the first byte alone.
 pub fn state_of_prefix(c1: u8) -> Opening
     ensures { λ r. ⌜ r ≡ openingOf c1 ⌝ }
 {
-    let i = table::PREFIX_OF[c1 as usize];
-    if i == 255 {
-        return Opening::NoState;
+    let x = back(c1 as u32);
+    let s8 = (x % 64) as u8;
+    let b1 = (x / 64 % 2) as u8;
+    if prefix(s8 as usize, b1 as usize) == c1 {
+        return Opening::From(s8, b1);
     }
-    Opening::From(i / 2, i % 2)
+    Opening::NoState
 }
 
 // The branch of the middle byte `c2` out of state `s8`; none out of a state past 63. The middle bytes of a state ascend, and the high half of

@@ -38,7 +38,7 @@ fn read_all(text: &mut [u8]) -> Input
 }
 
 // Writes the answer in one call, and says whether all of it was written.
-fn print(printed: page::Printed) -> bool
+fn print(printed: shown::Printed) -> bool
     requires { ⌜ printed .length ≤ 20672 ⌝ }
 {
     let n = printed.length;
@@ -60,7 +60,7 @@ fn main() {
         complain(b"unpage: standard input cannot be read\n");
         return;
     }
-    if !print(page::unpage(&text[..n])) {
+    if !print(shown::unpage(&text[..n])) {
         complain(b"unpage: standard output cannot be written, some of the answer is missing\n");
     }
 }

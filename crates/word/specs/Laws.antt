@@ -7,9 +7,9 @@ use native.Mathlib.Omega.{arith}
 use borrow.Author.Tests.{ltb-true, lt-ltb}
 use lib.Arith.{digits-div, digits-mod}
 use lib.Pow.{mod-pow-add, pow-pos}
-use Rattle.laws.specs.Tests.{is-true, is-false}
+use Rattle.laws.specs.Laws.Tests.{is-true, is-false}
 use Rattle.word.specs.declared.Fields.{Fields}
-use Rattle.word.specs.Word.{cut, fieldsOf, fits, Narrow, wordOf, joinOf}
+use Rattle.word.specs.Word.{fieldAt, fieldsOf, fits, Narrow, wordOf, joinOf}
 
 -- ---- the test and the facts
 pub fits-narrow : (f : Fields) → fits f ≡ true → Narrow f
@@ -61,8 +61,8 @@ unfolding joinOf
 join-refuses f n = rw (is-false (fits f) (λ t. n (fits-narrow f (is-true (fits f) t))))
 
 -- ---- sizes
-cut-lt : (lo width w : ℕ) → cut lo width w < 2 ^ width
-unfolding cut
+cut-lt : (lo width w : ℕ) → fieldAt lo width w < 2 ^ width
+unfolding fieldAt
 cut-lt lo width w = mod-lt (w / 2 ^ lo) (pow-pos width)
 
 -- the fields of a word fit
@@ -86,12 +86,12 @@ join-lt f n = omega arith
 
 -- ---- join of a split: the low 48 bits
 -- the bits of w up to the end of a field: those below the field, and the field
-low-step : (w width lo : ℕ) → w % 2 ^ (width + lo) ≡ w % 2 ^ lo + cut lo width w * 2 ^ lo
-unfolding cut
+low-step : (w width lo : ℕ) → w % 2 ^ (width + lo) ≡ w % 2 ^ lo + fieldAt lo width w * 2 ^ lo
+unfolding fieldAt
 low-step w width lo = mod-pow-add w width lo ∙ add-comm _ _
 
-low-first : (w : ℕ) → w % 2 ^ 1 ≡ cut 0 1 w * 2 ^ 0
-unfolding cut
+low-first : (w : ℕ) → w % 2 ^ 1 ≡ fieldAt 0 1 w * 2 ^ 0
+unfolding fieldAt
 low-first w = omega arith
 
 pub join-split : (w : ℕ) → wordOf (fieldsOf w) ≡ w % 2 ^ 48

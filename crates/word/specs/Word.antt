@@ -7,23 +7,23 @@ use Rattle.word.specs.declared.Fields.{Fields}
 use Rattle.word.specs.declared.Joined.{Joined}
 
 -- the field of w that has its low bit at lo and is width bits wide
-unfoldable pub cut : ℕ → ℕ → ℕ → ℕ
-cut lo width w = (w / 2 ^ lo) % 2 ^ width
+unfoldable pub fieldAt : ℕ → ℕ → ℕ → ℕ
+fieldAt lo width w = (w / 2 ^ lo) % 2 ^ width
 
 -- the ten fields of a word, low bit and width of each; bits 48 and up are ignored
 abbrev pub fieldsOf : ℕ → Fields
 fieldsOf w =
     record {
-      p = cut 0 1 w;
-      r = cut 1 1 w;
-      s8 = cut 2 6 w;
-      b1 = cut 8 1 w;
-      i1 = cut 9 11 w;
-      b2 = cut 20 4 w;
-      i2 = cut 24 11 w;
-      b3 = cut 35 1 w;
-      i3 = cut 36 11 w;
-      gain = cut 47 1 w;
+      p = fieldAt 0 1 w;
+      r = fieldAt 1 1 w;
+      s8 = fieldAt 2 6 w;
+      b1 = fieldAt 8 1 w;
+      i1 = fieldAt 9 11 w;
+      b2 = fieldAt 20 4 w;
+      i2 = fieldAt 24 11 w;
+      b3 = fieldAt 35 1 w;
+      i3 = fieldAt 36 11 w;
+      gain = fieldAt 47 1 w;
     }
 
 -- whether each field fits its width

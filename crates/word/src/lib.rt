@@ -1,7 +1,7 @@
-// The 48-bit word: ten fields, cut apart and joined back. Bit 0 is the least significant one.
+// The 48-bit word: ten fields, fieldAt apart and joined back. Bit 0 is the least significant one.
 ghost use mathlib.Core.Path.{_≡_};
 ghost use Prim.Native.Nat.{_+_, _*_, _^_, _<_, _≤_};
-ghost use Rattle.word.specs.Word.{cut, fieldsOf, fits, Narrow, wordOf, joinOf};
+ghost use Rattle.word.specs.Word.{fieldAt, fieldsOf, fits, Narrow, wordOf, joinOf};
 
 // Where a field stands: its low bit and its width.
 struct Slot {
@@ -33,12 +33,12 @@ const GAIN: Slot = Slot { lo: 47, width: 1 };
 pub struct Fields {
     pub p: u8, // the parity that the 24 coordinates share
     pub r: u8, // the class of section 1
-    pub s8: u8, // the state at cut 8
+    pub s8: u8, // the state at fieldAt 8
     pub b1: u8, // which of its two prefixes
     pub i1: u16, // the row of section 1 in its class
     pub b2: u8, // the branch out of the state
     pub i2: u16, // the row of section 2 in the middle's order
-    pub b3: u8, // which of the two suffixes at cut 16
+    pub b3: u8, // which of the two suffixes at fieldAt 16
     pub i3: u16, // the row of section 3 in its class
     pub gain: u8, // carried by the word, never decoded
 }
@@ -68,7 +68,7 @@ impl Fields {
         }
     }
 
-    // The word of the fields. A field that does not fit its width is refused: cut to its width, it would name another point.
+    // The word of the fields. A field that does not fit its width is refused: fieldAt to its width, it would name another point.
     pub fn join(self) -> Joined
         ensures { λ r. ⌜ r ≡ joinOf self ⌝ }
     {
@@ -89,7 +89,7 @@ impl Fields {
 // The field of `word` at `slot`.
 fn get(word: u64, slot: Slot) -> u64
     requires { ⌜ (slot .lo < 64) × (slot .width < 64) ⌝ }
-    ensures { λ r. ⌜ (r ≡ cut (slot .lo) (slot .width) word) × (r < 2 ^ slot .width) ⌝ }
+    ensures { λ r. ⌜ (r ≡ fieldAt (slot .lo) (slot .width) word) × (r < 2 ^ slot .width) ⌝ }
 {
     (word >> slot.lo) & ((1u64 << slot.width) - 1)
 }

@@ -8,14 +8,14 @@ use lib.Dec.{ltb}
 use lib.ListN.{length, take}
 use lib.Seq.{take-append-seam}
 use Rattle.page.specs.declared.Parsed.{Parsed}
-use Rattle.page.specs.Answer.{Reading, page, malformed, parsedOf}
+use Rattle.page.specs.Answer.{Reading, page, malformed, numberIn, numIn, wordsIn, parsedOf}
 use Rattle.page.specs.Reader.{readingOf}
 use Rattle.page.specs.PageRule.{only-pages}
-use Rattle.yultarvas.specs.Calls.{numIn, wordsIn, wordsNumber}
+use Rattle.yultarvas.specs.Calls.{wordsNumber}
 
 -- a number other than 0 is that of no page
 pub no-page : (R : Reading) (p : Parsed) (old : List ℕ) → p ≡ parsedOf R → (p .number ≡ 0 → ⊥) → p .number ≡ wordsNumber R old
-unfolding parsedOf
+unfolding parsedOf numberIn
 no-page (page num words) p old e h = absurd (h (ap (λ (q : Parsed). q .number) e))
 no-page malformed p old e h = ap (λ (q : Parsed). q .number) e
 
@@ -28,7 +28,7 @@ pub record Holds (R : Reading) (p : Parsed) : Type 0 where
   pub few : p .count ≤ 64
 
 pub some-page : (text : List ℕ) (p : Parsed) → p ≡ parsedOf (readingOf text) → p .number ≡ 0 → Holds (readingOf text) p
-unfolding parsedOf
+unfolding parsedOf numberIn numIn wordsIn
 some-page text p e h = go (readingOf text) refl e
   where
     go : (R : Reading) → readingOf text ≡ R → p ≡ parsedOf R → Holds R p

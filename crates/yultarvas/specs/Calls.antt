@@ -1,6 +1,6 @@
 -- What the exported calls answer, and what they leave in the memory that is lent to them. Definitions only.
 use mathlib.Core.Bool.{Bool, cond, _||_}
-use mathlib.Core.List.{List, [], _++_}
+use mathlib.Core.List.{List, _++_}
 use Prim.Native.Nat.{ℕ}
 use lib.Dec.{eqb, ltb}
 use lib.IntN.{ℤ}
@@ -10,7 +10,7 @@ use Rattle.refusal.specs.Refusal.{noRoom}
 use Rattle.tetra.specs.Tetra.{pointOf}
 use Rattle.tetra.specs.Encode.{encodeOf}
 use Rattle.tetra.specs.declared.Encoded.{Encoded}
-use Rattle.page.specs.Answer.{Reading, page, malformed, readOf, cellsOf}
+use Rattle.page.specs.Answer.{Reading, numberIn, wordsIn, readOf, cellsOf}
 use Rattle.page.specs.Reader.{readingOf}
 use Rattle.score.specs.declared.Scales.{Scales}
 use Rattle.score.specs.declared.Scored.{Scored}
@@ -97,17 +97,8 @@ abbrev pub pageCells : List ℕ → List ℤ → List ℤ
 pageCells text old = cellsOf (readingOf text) old
 
 -- ---- what a text is to its num and its words, into a slice that held `old`: 9 stands before 8
-abbrev pub numIn : Reading → ℕ
-numIn (page num words) = num
-numIn malformed = 0
-
-abbrev pub wordsIn : Reading → List ℕ
-wordsIn (page num words) = words
-wordsIn malformed = []
-
 abbrev pub wordsNumber : Reading → List ℕ → ℕ
-wordsNumber (page num words) old = cond (ltb (length old) (length words)) noRoom 0
-wordsNumber malformed old = 9
+wordsNumber R old = cond (eqb (numberIn R) 0) (cond (ltb (length old) (length (wordsIn R))) noRoom 0) (numberIn R)
 
 -- the words at the slice's start, and what stands behind them as it was
 abbrev pub wordsOver : Reading → List ℕ → List ℕ

@@ -6,14 +6,14 @@ mod environment;
 mod slices;
 
 use refusal::NO_ROOM;
-
 ghost use mathlib.Core.Path.{_≡_};
 ghost use lib.ListN.{length};
+ghost use Rattle.page.specs.Answer.{numIn, wordsIn};
 ghost use Rattle.page.specs.Reader.{readingOf};
 ghost use Rattle.yultarvas.specs.Calls.{left, decodeNumber, decodePoint, pointNumber, pointWord};
 ghost use Rattle.yultarvas.specs.Calls.{atScale, atSetting, atOwnScale, codeNumber, leftPoint};
 ghost use Rattle.yultarvas.specs.Calls.{scalesFor, scalesNumber, scoreFor, scoreNumber};
-ghost use Rattle.yultarvas.specs.Calls.{pageNumber, pageBlocks, pageCells, wordsNumber, numIn, wordsIn, wordsOver};
+ghost use Rattle.yultarvas.specs.Calls.{pageNumber, pageBlocks, pageCells, wordsNumber, wordsOver};
 ghost use Rattle.yultarvas.specs.Environment.{environmentOf};
 
 // ---- words and points

@@ -23,11 +23,7 @@ pub(crate) fn point_of(s: &[i32]) -> [i32; 24]
     requires { ⌜ 24 ≤ length (now s) ⌝ }
     ensures { λ r. ⌜ r ≡ take 24 (now (s .entry)) ⌝ }
 {
-    let mut out = [0i32; 24];
-    for j in 0..24usize {
-        out[j] = s[j];
-    }
-    out
+    tetra::block(s, 0)
 }
 
 // 24 coordinates, written at a slice's start.

@@ -7,7 +7,7 @@ use borrow.Author.Needs.{needs}
 use lib.ListN.{getD}
 use lib.Ieee.{Float, nan}
 use Rattle.search.specs.Record.{coordOf, shrinks}
-use Rattle.coord.specs.Rows.{coordIn}
+use Rattle.coord.specs.Inner.Rows.{coordIn}
 use Rattle.coord.proofs.record_at.Statement.{statement}
 use Rattle.coord.proofs.record_at.Tie as tie
 

@@ -7,8 +7,8 @@ use lib.IntN.{ℤ, pos}
 use lib.Signed.{ltZ}
 use mir.Syntax.{w32}
 use mir.ValLaws.{toZ-ofZ}
-use Rattle.laws.specs.Whole.{modZ}
-use Rattle.coord.specs.Rows.{tableOf}
+use Rattle.laws.specs.Words.{modZ}
+use Rattle.coord.specs.Inner.Rows.{tableOf}
 use Rattle.coord.proofs.Filled.{Ones, Fives, ones-none, fives-none, ones-more, fives-more, rows-all, record-is}
 use Rattle.coord.proofs.rows_of.Statement.{statement}
 use Rattle.coord.proofs.rows_of.Tie as tie

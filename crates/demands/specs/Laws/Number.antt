@@ -12,7 +12,7 @@ use lib.ListN.{length, getD}
 use lib.Ieee.{Float, nan, inf, fin, binary64, fits, div, lt, eq, isNan, round, odd, units, low, emax, prec}
 use lib.Ieee.Fits.{round-is, mul-fits, div-fits}
 use lib.Ieee.Scale.{finite}
-use Rattle.laws.specs.Tests.{and-left, and-right}
+use Rattle.laws.specs.Laws.Tests.{and-left, and-right}
 use Rattle.float.specs.Value.{U, magUnits, zero64}
 use Rattle.float.specs.Calls.{absOf, million64, quotientsOf}
 use Rattle.float.specs.Laws.Compare.{zero-lt}

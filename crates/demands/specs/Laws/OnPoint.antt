@@ -13,7 +13,7 @@ use lib.IntN.{ℤ, pos, negsuc, natAbs}
 use lib.Ieee.{Float, binary64, ofInt, div, lt, toBits, ofBits}
 use lib.Ieee.Fits.{div-fits, ofInt-fits}
 use lib.Ieee.Bits.{ofBits-toBits}
-use Rattle.laws.specs.Tests.{and-left, and-right, upto, below}
+use Rattle.laws.specs.Laws.Tests.{and-left, and-right, upto, below}
 use Rattle.tetra.specs.Lattice.{HasWord}
 use Rattle.float.specs.Value.{U, magUnits, one64}
 use Rattle.float.specs.Calls.{quotientsOf}
@@ -21,7 +21,7 @@ use Rattle.float.specs.Laws.Exact.{ofInt-whole}
 use Rattle.score.specs.Samples.{limit64, scaleNumber}
 use Rattle.score.specs.Laws.Sample.{UpTo, Each, none, more, sample-number-zero, scale-number-zero}
 use Rattle.encoder.specs.Encode.{numberAt}
-use Rattle.nearest.specs.Demand3.{doubles}
+use Rattle.nearest.specs.Nearest.{doubles}
 use Rattle.nearest.specs.Laws.Coordinate.{int-mg}
 use Rattle.nearest.specs.Laws.OnPoint.{small}
 

@@ -7,14 +7,14 @@ use mir.Syntax.{w32}
 use mir.Val.{SFits}
 use mir.Facts.{toZ-ofZ}
 use lib.IntN.{pos}
-use Rattle.laws.specs.Filled.{Filled, fill-none, fill-more, fill-all}
+use Rattle.laws.specs.Laws.Filled.{Filled, fill-none, fill-more, fill-all}
 use Rattle.trellis.specs.Laws.Trio.{trio-fits}
-use Rattle.search.specs.Block.{place, pointAt}
+use Rattle.search.specs.Block.{place, winnerAt}
 use Rattle.encoder.proofs.point_of.Statement.{statement}
 use Rattle.encoder.proofs.point_of.Tie as tie
 
 abbrev Inv-loop : tie.InvT-loop
-Inv-loop w out₀ i₀ out i = Filled (pos 0) (λ (k : ℕ). pointAt w (place k)) 24 i out
+Inv-loop w out₀ i₀ out i = Filled (pos 0) (λ (k : ℕ). winnerAt w (place k)) 24 i out
 
 abbrev μ-loop : tie.MeasureT-loop
 μ-loop w out₀ i₀ out i = 24 - i
@@ -48,7 +48,7 @@ loop-again c =
     let w = c .before .before .before .before .args .w in
     let f : SFits w32 (c .in-trio .result) = search needs in
     fill-more (c .before .before .before .loop .inv) (omega arith)
-    (toZ-ofZ f ∙ c .in-trio .ensures ∙ ap (pointAt w) (c .before .place .ensures))
+    (toZ-ofZ f ∙ c .in-trio .ensures ∙ ap (winnerAt w) (c .before .place .ensures))
 
 returns : tie.Need-returns Inv-loop μ-loop
 returns c = fill-all (c .before .loop .inv) (omega arith)

@@ -5,7 +5,7 @@ use native.Mathlib.Omega.{arith}
 use borrow.Author.Needs.{needs}
 use lib.ListN.{getD}
 use lib.Ieee.{nan}
-use Rattle.laws.specs.Filled.{Filled, fill-none, fill-more, fill-all}
+use Rattle.laws.specs.Laws.Filled.{Filled, fill-none, fill-more, fill-all}
 use Rattle.encoder.proofs.section.Statement.{statement}
 use Rattle.encoder.proofs.section.Tie as tie
 

@@ -6,7 +6,8 @@ use native.Mathlib.Nat.{zero-add}
 use borrow.Author.Needs.{needs}
 use lib.ListN.{getD}
 use lib.Ieee.{Float, nan}
-use Rattle.laws.specs.Lists.{tab, tab-eq}
+use Rattle.laws.specs.Words.{tab}
+use Rattle.laws.specs.Laws.Lists.{tab-eq}
 use Rattle.search.specs.Tables.{tables}
 use Rattle.search.specs.Parity.{Targets, bothParities}
 use Rattle.search.specs.Parity as parity

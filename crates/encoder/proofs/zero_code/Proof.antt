@@ -1,6 +1,6 @@
 -- `encoder::zero_code` meets its contract. Assumes nothing.
 use mathlib.Core.Path.{refl}
-use Rattle.laws.specs.Lists.{tab}
+use Rattle.laws.specs.Words.{tab}
 use Rattle.encoder.proofs.zero_code.Statement.{statement}
 use Rattle.encoder.proofs.zero_code.Tie as tie
 

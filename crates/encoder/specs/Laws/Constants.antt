@@ -8,7 +8,7 @@ use borrow.Author.Tests.{ne-eqb}
 use lib.IntN.{ℤ, pos}
 use lib.ListN.{replicate}
 use lib.Ieee.{Float, binary64, ofBits}
-use Rattle.laws.specs.Lists.{tab}
+use Rattle.laws.specs.Words.{tab}
 use Rattle.float.specs.Calls.{quotientsOf}
 use Rattle.score.specs.Samples.{sampleNumber}
 use Rattle.score.specs.Scale.{choiceOf, secondScale}

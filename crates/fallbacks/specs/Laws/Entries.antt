@@ -10,8 +10,9 @@ use native.Mathlib.Omega.{arith}
 use lib.Dec.{T, ltb, eqb, leb, ltb→lt, eqb→eq, leb→le, lit≤}
 use lib.ListN.{getD, length}
 use lib.IntN.{ℤ}
-use Rattle.laws.specs.Tests.{upto, below2, and-left, and-right, split3, or-cases}
-use Rattle.laws.specs.Lists.{tab, filled, tab-length}
+use Rattle.laws.specs.Laws.Tests.{upto, below2, and-left, and-right, split3, or-cases}
+use Rattle.laws.specs.Words.{tab}
+use Rattle.laws.specs.Laws.Lists.{filled, tab-length}
 use Rattle.rank.specs.Coord.{valOf}
 use Rattle.rank.specs.Vector.{ranksBelow, class, pack, unpack, inClass}
 use Rattle.rank.specs.Laws.Vector.{unpack-at, unpack-length, pack-unpack, more-below}

@@ -9,7 +9,7 @@ use native.Mathlib.Omega.{arith}
 use lib.Dec.{T, leb, eqb, leb→le, nleb→lt}
 use lib.ListN.{length}
 use lib.IntN.{ℤ}
-use Rattle.laws.specs.Tests.{upto, below, below2, and-left, and-right, and-in}
+use Rattle.laws.specs.Laws.Tests.{upto, below, below2, and-left, and-right, and-in}
 use Rattle.rank.specs.Coord.{valOf}
 use Rattle.rank.specs.Vector.{ranksBelow, kZero, class}
 use Rattle.rank.specs.Laws.Vector.{rank-first, rank-rest}

@@ -8,8 +8,8 @@ use native.Mathlib.Omega.{arith}
 use lib.Dec.{T, eqb}
 use lib.ListN.{getD, length}
 use lib.IntN.{ℤ, pos}
-use Rattle.laws.specs.Lists.{filled, tab-length}
-use Rattle.laws.specs.Bits.{weight}
+use Rattle.laws.specs.Laws.Lists.{filled, tab-length}
+use Rattle.laws.specs.Words.{weight}
 use Rattle.rank.specs.Coord.{valOf}
 use Rattle.rank.specs.Vector.{ranksBelow, class, pack, unpack, inClass}
 use Rattle.rank.specs.Laws.Vector.{unpack-at, unpack-length, below-up}

@@ -12,8 +12,8 @@ use lib.ListN.{length}
 use lib.IntN.{ℤ, pos, negsuc}
 use lib.Pow.{pow-add}
 use lib.Signed.{ltZ, _<ℤ_, ltZ-yes}
-use Rattle.laws.specs.Tests.{and-left, and-right}
-use Rattle.laws.specs.Order.{Compared, less, same, more, trichotomy}
+use Rattle.laws.specs.Laws.Tests.{and-left, and-right}
+use Rattle.laws.specs.Laws.Order.{Compared, less, same, more, trichotomy}
 use Rattle.fallbacks.specs.Region.{square, norm, NotGreater, NotAfter}
 
 -- ---- a coordinate as a digit below 64: -16 is 0

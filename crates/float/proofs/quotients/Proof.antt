@@ -6,7 +6,7 @@ use native.Mathlib.Omega.{arith}
 use borrow.Author.Needs.{needs}
 use lib.ListN.{length, getD, length-set}
 use lib.Ieee.{Float, nan, binary64, div}
-use Rattle.laws.specs.Lists.{filled-more}
+use Rattle.laws.specs.Laws.Lists.{filled-more}
 use Rattle.float.proofs.Lists.{quotients-filled}
 use Rattle.float.proofs.quotients.Statement.{statement}
 use Rattle.float.proofs.quotients.Tie as tie

@@ -34,7 +34,7 @@ use lib.Ieee.{Float, nan, inf, fin, binary64, up, down, unlike, fits, round, sum
 use lib.Ieee.Fits.{down-pos, up-pos}
 use lib.Ieee.Order.{round-mono}
 use lib.Ieee.Scale.{finite, round-under}
-use Rattle.laws.specs.Whole.{gap}
+use Rattle.laws.specs.Words.{gap}
 use Rattle.float.specs.Value.{U, magUnits, isMinus, posUnits, negUnits, four64}
 use Rattle.float.specs.Laws.Exact.{
   has-value,

@@ -25,7 +25,7 @@ use lib.Pow.{pow-pos}
 use lib.Ieee.{Float, nan, inf, fin, binary64, up, down, fits, lt, le, eq, below, level}
 use lib.Ieee.Fits.{down-pos}
 use lib.Ieee.Scale.{finite}
-use Rattle.laws.specs.Tests.{and-left, and-right, and-in, eq→eqb, or-left, or-right, or-cases}
+use Rattle.laws.specs.Laws.Tests.{and-left, and-right, and-in, eq→eqb, or-left, or-right, or-cases}
 use Rattle.float.specs.Value.{U, magUnits, isMinus, posUnits, negUnits, zero64}
 use Rattle.float.specs.Laws.Exact.{zero-fits, zero-mag, has-value, scaled, add-scaled}
 

@@ -36,7 +36,7 @@ use lib.Ieee.Exact.{HasValue, units-val}
 use lib.Ieee.Nearest.{closest}
 use lib.Ieee.Order.{drop, kept}
 use lib.Ieee.Scale.{finite, grid}
-use Rattle.laws.specs.Order.{Ordered, compared}
+use Rattle.laws.specs.Laws.Order.{Ordered, compared}
 use Rattle.float.specs.Value.{U, magUnits, isMinus}
 use Rattle.float.specs.Laws.Exact.{Exactly, exactly, add-scaled}
 

@@ -31,8 +31,8 @@ use lib.Ieee.Fits.{down-pos, round-fits}
 use lib.Ieee.Bits.{ofBits-toBits}
 use lib.Ieee.Exact.{HasValue, round-exact}
 use lib.Ieee.Scale.{finite}
-use Rattle.laws.specs.Tests.{and-left, and-right}
-use Rattle.laws.specs.Whole.{posPart, negPart}
+use Rattle.laws.specs.Laws.Tests.{and-left, and-right}
+use Rattle.laws.specs.Words.{posPart, negPart}
 use Rattle.float.specs.Value.{U, magUnits, isMinus, posUnits, negUnits, zero64, one64}
 
 -- ---- what it is for a finite double to fit the format

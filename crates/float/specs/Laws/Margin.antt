@@ -29,7 +29,7 @@ use lib.IntN.{ℤ, pos, negsuc, natAbs}
 use lib.ListN.{length}
 use lib.Ieee.{Float, binary64, fits, add, sub, ofInt, lt}
 use lib.Ieee.Scale.{finite}
-use Rattle.laws.specs.Whole.{posPart, negPart, gap}
+use Rattle.laws.specs.Words.{posPart, negPart, gap}
 use Rattle.float.specs.Value.{U, magUnits, posUnits, negUnits, zero64}
 use Rattle.float.specs.Calls.{sumFrom, sumOf}
 use Rattle.float.specs.Distance.{coordGap, sqDist, margin, sqDiff, sqTerms, floatDist}

@@ -23,8 +23,8 @@ use lib.IntN.{pos, negsuc}
 use lib.Ieee.{Float, nan, inf, fin, binary64, fits, lt, neg}
 use lib.Ieee.Fits.{neg-fits}
 use lib.Ieee.Scale.{finite}
-use Rattle.laws.specs.Tests.{is-false}
-use Rattle.laws.specs.Whole.{gap}
+use Rattle.laws.specs.Laws.Tests.{is-false}
+use Rattle.laws.specs.Words.{gap}
 use Rattle.float.specs.Value.{magUnits, isMinus, posUnits, negUnits, zero64}
 use Rattle.float.specs.Calls.{absOf}
 use Rattle.float.specs.Laws.Exact.{zero-fits, parts, Exactly, neg-exactly}

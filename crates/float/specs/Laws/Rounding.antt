@@ -32,9 +32,9 @@ use lib.Pow.{pow-pos}
 use lib.Ieee.{Float, nan, inf, fin, binary64, fits, sub, div, lt}
 use lib.Ieee.Fits.{cond-fits}
 use lib.Ieee.Scale.{finite}
-use Rattle.laws.specs.Tests.{is-false}
-use Rattle.laws.specs.Order.{le-or-lt}
-use Rattle.laws.specs.Whole.{posPart, negPart, gap}
+use Rattle.laws.specs.Laws.Tests.{is-false}
+use Rattle.laws.specs.Laws.Order.{le-or-lt}
+use Rattle.laws.specs.Words.{posPart, negPart, gap}
 use Rattle.float.specs.Value.{U, magUnits, isMinus, posUnits, negUnits, four64}
 use Rattle.float.specs.Calls.{absOf, halfUp, roundAway, million64, minusMillion64, clamped, rounded}
 use Rattle.float.specs.Laws.Compare.{lt-is, not-lt-is}

@@ -1,4 +1,5 @@
 -- `float_runs::run` is safe and ends: what is left of the slice gets shorter by a line at each turn. Assumes nothing.
+use borrow.Author.Needs.{needs}
 use Prim.Native.Nat.{_≤_, _-_}
 use native.Mathlib.Omega.{arith}
 use lib.ListN.{length}
@@ -17,8 +18,20 @@ loop-holds c = omega arith
 sub-loop : tie.Need-sub-loop Inv-loop μ-loop
 sub-loop c = omega arith
 
-bits-at-requires : tie.Need-bits-at-requires Inv-loop μ-loop
-bits-at-requires c κs = omega arith
+add-bits-of : tie.Need-add-bits-of Inv-loop μ-loop
+add-bits-of c = omega arith
+
+sub-bits-of : tie.Need-sub-bits-of Inv-loop μ-loop
+sub-bits-of c = omega arith
+
+part-bits-of-start : tie.Need-part-bits-of-start Inv-loop μ-loop
+part-bits-of-start c = omega arith
+
+part-bits-of-end : tie.Need-part-bits-of-end Inv-loop μ-loop
+part-bits-of-end c = search needs
+
+bits-of-requires : tie.Need-bits-of-requires Inv-loop μ-loop
+bits-of-requires c κs = tt
 
 double-of-requires : tie.Need-double-of-requires Inv-loop μ-loop
 double-of-requires c κs = tt
@@ -46,7 +59,11 @@ run-spec =
     μ-loop
     loop-holds
     sub-loop
-    bits-at-requires
+    add-bits-of
+    sub-bits-of
+    part-bits-of-start
+    part-bits-of-end
+    bits-of-requires
     double-of-requires
     print-answer-requires
     add-at

@@ -12,10 +12,10 @@ use Rattle.join.proofs.best_way.Statement.{statement}
 use Rattle.join.proofs.best_way.Tie as tie
 
 abbrev Inv-loop : tie.InvT-loop
-Inv-loop p ix nx v1 v2 v3 best₀ i1₀ best i1 = (i1 ≤ 128) × ((s : Sides) → ValuesOf s v1 v2 v3 → best ≡ joinTo tables p s i1)
+Inv-loop p nx v1 v2 v3 best₀ i1₀ best i1 = (i1 ≤ 128) × ((s : Sides) → ValuesOf s v1 v2 v3 → best ≡ joinTo tables p s i1)
 
 abbrev μ-loop : tie.MeasureT-loop
-μ-loop p ix nx v1 v2 v3 best₀ i1₀ best i1 = 128 - i1
+μ-loop p nx v1 v2 v3 best₀ i1₀ best i1 = 128 - i1
 
 infinite-requires : tie.Need-infinite-requires Inv-loop μ-loop
 infinite-requires c κs = search needs

@@ -13,11 +13,11 @@ use Rattle.join.proofs.bounds_over.Statement.{statement}
 use Rattle.join.proofs.bounds_over.Tie as tie
 
 abbrev Inv-loop : tie.InvT-loop
-Inv-loop p ix nx v1 v2 v3 x1 x2 x3 u0 top u₀ b1₀ b2₀ b3₀ n₀ u b1 b2 b3 n =
+Inv-loop p nx v1 v2 v3 x1 x2 x3 u0 top u₀ b1₀ b2₀ b3₀ n₀ u b1 b2 b3 n =
     (n ≤ 4096) × ((s : Sides) → ValuesOf s v1 v2 v3 → ExactsOf s x1 x2 x3 → boundsBy u b1 b2 b3 ≡ boundsTo tables p s u0 n)
 
 abbrev μ-loop : tie.MeasureT-loop
-μ-loop p ix nx v1 v2 v3 x1 x2 x3 u0 top u₀ b1₀ b2₀ b3₀ n₀ u b1 b2 b3 n = 4096 - n
+μ-loop p nx v1 v2 v3 x1 x2 x3 u0 top u₀ b1₀ b2₀ b3₀ n₀ u b1 b2 b3 n = 4096 - n
 
 infinite-requires : tie.Need-infinite-requires Inv-loop μ-loop
 infinite-requires c κs = search needs

@@ -7,7 +7,7 @@ use Prim.Native.Nat.{ℕ, _-_, _*_}
 use native.Mathlib.Omega.{arith}
 use borrow.Author.Needs.{needs}
 use lib.Ieee.{Float, nan}
-use Rattle.laws.specs.Filled.{Filled, fill-none, fill-more}
+use Rattle.laws.specs.Laws.Filled.{Filled, fill-none, fill-more}
 use Rattle.search.specs.declared.Entry.{Entry}
 use Rattle.search.specs.Join.{entAt}
 use Rattle.join.proofs.Rows.{fill-two}

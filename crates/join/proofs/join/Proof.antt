@@ -7,9 +7,6 @@ use Rattle.join.specs.Laws.{in-join}
 use Rattle.join.proofs.join.Statement.{statement}
 use Rattle.join.proofs.join.Tie as tie
 
-branch-entries-requires : tie.Need-branch-entries-requires
-branch-entries-requires c κs = search needs
-
 nexts-requires : tie.Need-nexts-requires
 nexts-requires c κs = search needs
 
@@ -24,11 +21,11 @@ best-way-requires c κs = search needs
 
 returns : tie.Need-returns
 returns c =
-    let f = c .before .before .before .before .before .before .before .before .before in
-    let s = f .before .before .before .args in
+    let f = c .before .before .before .before .before .before .before .before in
+    let s = f .before .before .args in
     let e : Sides = record { e1 = s .e1; e2 = s .e2; e3 = s .e3 } in
     let q = c .best-way .ensures e (f .fields-of .ensures .values) in
     (q, rw q (in-join (s .p % 2) e 128 (omega arith)))
 
 pub join-spec : {M : Type 1} → statement M
-join-spec = tie.close (tie.spec branch-entries-requires nexts-requires fields-of-requires cast-best-way best-way-requires returns)
+join-spec = tie.close (tie.spec nexts-requires fields-of-requires cast-best-way best-way-requires returns)

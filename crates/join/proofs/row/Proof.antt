@@ -14,10 +14,10 @@ use Rattle.join.proofs.row.Statement.{statement}
 use Rattle.join.proofs.row.Tie as tie
 
 abbrev Inv-loop : tie.InvT-loop
-Inv-loop p ix nx v1 v2 v3 i1 a best₀ t₀ best t = (t ≤ 32) × ((s : Sides) → ValuesOf s v1 v2 v3 → best ≡ rowTo tables p s i1 best₀ t)
+Inv-loop p nx v1 v2 v3 i1 a best₀ t₀ best t = (t ≤ 32) × ((s : Sides) → ValuesOf s v1 v2 v3 → best ≡ rowTo tables p s i1 best₀ t)
 
 abbrev μ-loop : tie.MeasureT-loop
-μ-loop p ix nx v1 v2 v3 i1 a best₀ t₀ best t = 32 - t
+μ-loop p nx v1 v2 v3 i1 a best₀ t₀ best t = 32 - t
 
 mul-a : tie.Need-mul-a Inv-loop μ-loop
 mul-a c = search needs

@@ -9,7 +9,7 @@ use borrow.Fn.Kinds.{In, Out}
 use borrow.Fn.PlainCycle.{Measures, is, falls, and}
 use lib.ListN.{length, length-append, length-set}
 use lib.Seq.{sets}
-use Rattle.laws.specs.Lists.{sets-append}
+use Rattle.laws.specs.Laws.Lists.{sets-append}
 use Rattle.listing.specs.Listing.{under}
 use Rattle.listing.specs.Laws.Growth.{below-six}
 use Rattle.listing.proofs.Rest.{under-none, rest-of, rest-all, rest-more, rest-none}

@@ -8,9 +8,10 @@ use native.Mathlib.Nat.{zero-lt-suc}
 use native.Mathlib.Omega.{arith}
 use lib.Dec.{T, ltb, eqb, ltb→lt, eqb→eq}
 use lib.ListN.{length, getD}
-use Rattle.laws.specs.Tests.{and-left, and-right}
-use Rattle.laws.specs.Tables.{every, at, chain, chain-at}
-use Rattle.laws.specs.Order.{lexLt, pick3-same}
+use Rattle.laws.specs.Laws.Tests.{and-left, and-right}
+use Rattle.laws.specs.Laws.Tables.{every, at, chain, chain-at}
+use Rattle.laws.specs.Words.{lexLt}
+use Rattle.laws.specs.Laws.Order.{pick3-same}
 use Rattle.rank.specs.Vector.{cost, pack, unpack, ranksBelow}
 use Rattle.rank.specs.Laws.Vector.{lexLt-trans}
 use Rattle.listing.specs.Listing.{grow, under, listing}

@@ -7,7 +7,7 @@ use lib.ListN.{getD}
 use lib.Ieee.{Float, nan, lt, le}
 use Rattle.search.specs.declared.Coord.{Coord}
 use Rattle.search.specs.declared.Closed.{Closed}
-use Rattle.search.specs.declared.Now.{Now}
+use Rattle.search.specs.declared.Candidate.{Candidate}
 use Rattle.search.specs.declared.Best.{Best}
 use Rattle.search.specs.declared.Top.{Top}
 use Rattle.search.specs.Record.{row}
@@ -25,7 +25,7 @@ use Rattle.members.specs.Laws.Zero.{zero-held}
 abbrev Inf : Best → Type 0
 Inf b = b .met ≡ false → b .d ≡ infinity
 
-kept-inf : (bound : Closed) (n : Now) (best : Best) → Inf best → Inf (keptBase bound n best)
+kept-inf : (bound : Closed) (n : Candidate) (best : Best) → Inf best → Inf (keptBase bound n best)
 kept-inf bound n best i = go (holds bound (n .cost) (n .key) && lt (n .dist) (best .d))
   where
     go : (b : Bool) → Inf (cond b (record { d = n .dist; key = n .key; met = true }) best)
@@ -33,14 +33,14 @@ kept-inf bound n best i = go (holds bound (n .cost) (n .key) && lt (n .dist) (be
     go false = i
 
 -- ---- and a best that was met stays met
-kept-met : (bound : Closed) (n : Now) (best : Best) → best .met ≡ true → keptBase bound n best .met ≡ true
+kept-met : (bound : Closed) (n : Candidate) (best : Best) → best .met ≡ true → keptBase bound n best .met ≡ true
 kept-met bound n best i = go (holds bound (n .cost) (n .key) && lt (n .dist) (best .d))
   where
     go : (b : Bool) → (cond b (record { d = n .dist; key = n .key; met = true }) best) .met ≡ true
     go true = refl
     go false = i
 
-kept-new : (bound : Closed) (n : Now) (best : Best) → holds bound (n .cost) (n .key) ≡ true → lt (n .dist) (best .d) ≡ true
+kept-new : (bound : Closed) (n : Candidate) (best : Best) → holds bound (n .cost) (n .key) ≡ true → lt (n .dist) (best .d) ≡ true
     → keptBase bound n best .met ≡ true
 kept-new bound n best = go (holds bound (n .cost) (n .key)) (lt (n .dist) (best .d))
   where
@@ -51,7 +51,7 @@ kept-new bound n best = go (holds bound (n .cost) (n .key)) (lt (n .dist) (best 
 
 -- any step keeps what its old best and every new one have
 module _ (P : Best → Type 0) (N : (d : Float) (k : ℕ) → P (record { d = d; key = k; met = true })) where
-  step-keeps : (a b : Coord) (bound : Closed) (n : Now) (best : Best) (j f fj j2 g f2 : ℕ) → P best → P (stepOf a b bound n best j f fj j2 g f2)
+  step-keeps : (a b : Coord) (bound : Closed) (n : Candidate) (best : Best) (j f fj j2 g f2 : ℕ) → P best → P (stepOf a b bound n best j f fj j2 g f2)
   unfolding stepOf
   step-keeps a b bound n best j f fj j2 g f2 h =
       go (le (best .d) (movedD a b (n .dist) f fj g f2))
@@ -67,18 +67,18 @@ module _ (P : Best → Type 0) (N : (d : Float) (k : ℕ) → P (record { d = d;
       go false true = N (movedD a b (n .dist) f fj g f2) (keyMoved (n .key) j (getD (a .rank) fj 0) j2 (getD (b .rank) f2 0))
       go false false = h
 
-  moves-keep : (e : List Coord) (top : Top) (fix : ℕ) (bound : Closed) (n : Now) (start : Best) → P start → (i : ℕ)
+  moves-keep : (e : List Coord) (top : Top) (fix : ℕ) (bound : Closed) (n : Candidate) (start : Best) → P start → (i : ℕ)
       → P (movesTo e top fix bound n start i)
   unfolding movesTo
   moves-keep e top fix bound n start h zero = h
   moves-keep e top fix bound n start h (suc i) =
       step-keeps _ _ bound n (movesTo e top fix bound n start i) _ _ _ _ _ _ (moves-keep e top fix bound n start h i)
 
-moves-inf : (e : List Coord) (top : Top) (fix : ℕ) (bound : Closed) (n : Now) (start : Best) → Inf start → (i : ℕ)
+moves-inf : (e : List Coord) (top : Top) (fix : ℕ) (bound : Closed) (n : Candidate) (start : Best) → Inf start → (i : ℕ)
     → Inf (movesTo e top fix bound n start i)
 moves-inf = moves-keep Inf (λ d k q. absurd (clash refl q))
 
-moves-met : (e : List Coord) (top : Top) (fix : ℕ) (bound : Closed) (n : Now) (start : Best) → start .met ≡ true → (i : ℕ)
+moves-met : (e : List Coord) (top : Top) (fix : ℕ) (bound : Closed) (n : Candidate) (start : Best) → start .met ≡ true → (i : ℕ)
     → movesTo e top fix bound n start i .met ≡ true
 moves-met = moves-keep (λ b. b .met ≡ true) (λ d k. refl)
 
@@ -100,7 +100,7 @@ module _ (ts : List Float) (p c : ℕ) (P0 : p < 2) (T0 : (j : ℕ) → j < 8 �
   abbrev fix : ℕ
   fix = fixOf e want (topTo e 6 .j0)
 
-  abbrev now : Now
+  abbrev now : Candidate
   now = nowTo e (topTo e 6 .j0) fix 8
 
   last-kept : (best : Best) → Inf best → keptBase (tables .mixed) now best .met ≡ true

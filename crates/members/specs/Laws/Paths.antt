@@ -12,8 +12,9 @@ use lib.ListN.{getD}
 use lib.Seq.{getD-set-same}
 use lib.Ieee.{Float, nan, lt}
 use lib.Ieee.Scale.{finite}
-use Rattle.laws.specs.Lists.{tab, tab-at, tab-length}
-use Rattle.laws.specs.Tests.{is-true, true-is, split3}
+use Rattle.laws.specs.Words.{tab}
+use Rattle.laws.specs.Laws.Lists.{tab-at, tab-length}
+use Rattle.laws.specs.Laws.Tests.{is-true, true-is, split3}
 use Rattle.float.specs.Value.{U, magUnits, posUnits, negUnits}
 use Rattle.float.specs.Laws.Exact.{mag-parts}
 use Rattle.search.specs.declared.Entry.{Entry}

@@ -8,18 +8,19 @@ use lib.Dec.{T}
 use lib.ListN.{getD, length, take, drop, List·getD-append}
 use lib.Seq.{ext-getD}
 use lib.IntN.{ℤ, pos}
-use Rattle.laws.specs.Lists.{tab, tab-at, tab-length, append-past}
-use Rattle.laws.specs.Bits.{weight}
-use Rattle.laws.specs.Whole.{modZ}
+use Rattle.laws.specs.Words.{tab}
+use Rattle.laws.specs.Laws.Lists.{tab-at, tab-length, append-past}
+use Rattle.laws.specs.Words.{weight}
+use Rattle.laws.specs.Words.{modZ}
 use Rattle.rank.specs.Coord.{valOf}
 use Rattle.rank.specs.Vector.{class, unpack, ranksBelow, inClass, inMiddle}
 use Rattle.rank.specs.Laws.Vector.{unpack-at, below-up, class-ranks, middle-class}
 use Rattle.rank.specs.Section as section
 use Rattle.rank.specs.Laws.Section.{point-uniform, point-bits, point-ranks, point-length}
-use Rattle.trellis.specs.Code.{wordOf, columns, label}
+use Rattle.trellis.specs.Code.{codewordOf, columns, label}
 use Rattle.trellis.specs.Laws.Code.{word-lt, bytes-even}
 use Rattle.trellis.specs.Tables.{prefixes, middles, nexts, suffixes}
-use Rattle.trellis.specs.Trellis.{prefixOf, middleOf, nextOf, suffixOf, s8Of, b1Of, b2Of, b3Of}
+use Rattle.trellis.specs.Trellis.{prefixOf, middleOf, nextOf, suffixOf, middleSets, s8Of, b1Of, b2Of, b3Of}
 use Rattle.trellis.specs.Laws.Path.{path-at, first-at, second-at, third-at, prefix-lt, middle-lt, suffix-lt, next-lt}
 use Rattle.trellis.specs.Laws.Back.{label-parts}
 use Rattle.trellis.specs.Laws.Trio.{trio-fits}
@@ -31,7 +32,7 @@ use Rattle.tetra.specs.Laws.Word.{sum-classes}
 use Rattle.search.specs.declared.Entry.{Entry}
 use Rattle.search.specs.declared.Winner.{Winner}
 use Rattle.search.specs.Record.{bitAt}
-use Rattle.search.specs.Tables.{tables, classOf, middleSets, branchEntries}
+use Rattle.search.specs.Tables.{tables, classOf, branchEntries}
 use Rattle.search.specs.Laws.Tables.{entry-byte}
 use Rattle.search.specs.Entries.{sectionAt}
 use Rattle.search.specs.Join.{midAt, lastAt}
@@ -111,7 +112,7 @@ module _ (p : ℕ) (P0 : p < 2) (e1 e2 e3 : Entry) (H : Through p e1 e2 e3) wher
   abbrev parts : (s8Of x ≡ s8) × (b1Of x ≡ b1) × (b2Of x ≡ b2) × (b3Of x ≡ b3)
   parts = label-parts s8 b1 b2 b3 s8-lt (H .one .byte .1) b2-lt (H .three .byte .1)
 
-  word-is : wordOf columns x ≡ word
+  word-is : codewordOf columns x ≡ word
   word-is =
       path-at x
       ∙ ap₂ (λ (a b : ℕ). a + 65536 * b)

@@ -8,9 +8,10 @@ use native.Mathlib.Decide.{ℕ-discrete}
 use native.Mathlib.Omega.{arith}
 use lib.Dec.{T, ltb, leb, eqb, ltb→lt, leb→le, eqb→eq}
 use lib.ListN.{getD, length}
-use Rattle.laws.specs.Tests.{true-is, or-cases, and-left, and-right}
-use Rattle.laws.specs.Order.{pick3, lexLe, pick3-lt, pick3-eq}
-use Rattle.laws.specs.Bits.{weight}
+use Rattle.laws.specs.Laws.Tests.{true-is, or-cases, and-left, and-right}
+use Rattle.laws.specs.Words.{pick3, lexLe}
+use Rattle.laws.specs.Laws.Order.{pick3-lt, pick3-eq}
+use Rattle.laws.specs.Words.{weight}
 use Rattle.rank.specs.Coord.{kOf}
 use Rattle.rank.specs.Vector.{sq, cost, class, unpack, ranksBelow, within, boundCost, boundCut, middleCost, middleCut, inClass, inMiddle}
 use Rattle.rank.specs.Laws.Vector.{rank-first, rank-rest, unpack-at, unpack-below}

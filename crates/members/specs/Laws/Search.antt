@@ -7,7 +7,7 @@ use native.Mathlib.Omega.{arith}
 use lib.Dec.{T}
 use lib.ListN.{getD, length}
 use lib.Ieee.{Float, nan, lt}
-use Rattle.laws.specs.Lists.{tab-at}
+use Rattle.laws.specs.Laws.Lists.{tab-at}
 use Rattle.trellis.specs.Laws.Trio.{trio-fits}
 use Rattle.tetra.specs.Lattice.{HasWord}
 use Rattle.search.specs.declared.Winner.{Winner}

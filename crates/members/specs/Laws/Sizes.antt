@@ -11,7 +11,7 @@ use lib.ListN.{getD}
 use lib.IntN.{ℤ, natAbs}
 use lib.Ieee.{Float, nan, binary64, fits, add, sub, ofInt}
 use lib.Ieee.Scale.{finite}
-use Rattle.laws.specs.Whole.{gap}
+use Rattle.laws.specs.Words.{gap}
 use Rattle.float.specs.Value.{U, magUnits, posUnits, negUnits, zero64}
 use Rattle.float.specs.Laws.Exact.{mag-parts, neg-mag, ofInt-whole, zero-fits, zero-mag}
 use Rattle.float.specs.Laws.Error.{halfUlp}

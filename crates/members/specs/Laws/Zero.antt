@@ -14,7 +14,7 @@ use lib.ListN.{getD}
 use lib.IntN.{ℤ, pos, negsuc}
 use lib.Ieee.{Float, nan, fin, binary64, fits, unlike, span, climb, size, odd, units, round, neg, sum, add, sub, mul, div, lt, ofInt}
 use lib.Ieee.Scale.{finite}
-use Rattle.laws.specs.Tests.{upto, below, is-true, split3, split4, eq→eqb, or-else, or-left, or-right, and-in}
+use Rattle.laws.specs.Laws.Tests.{upto, below, is-true, split3, split4, eq→eqb, or-else, or-left, or-right, and-in}
 use Rattle.rank.specs.Coord.{rankOf}
 use Rattle.rank.specs.Vector.{sq, unpack}
 use Rattle.rank.specs.Laws.Vector.{unpack-at}
@@ -166,9 +166,11 @@ lex-le : (a b c d e f g h : ℕ) → a ≤ 1 → b ≤ 1 → c ≤ 1 → d ≤ 1
 lex-le a b c d e f g h i j k l m n o p = omega arith
 
 low-holds : (cost key : ℕ) → cost < 72 → holds (tables .mixed) cost key ≡ true
+unfolding lexNum
 low-holds cost key h = is-true (holds (tables .mixed) cost key) (or-left (ltb cost 72) (eqb cost 72 && leb (lexOf key) 0x30001010) (lt→ltb cost 72 h))
 
 cut-holds : (cost key : ℕ) → cost ≤ 72 → lexOf key ≤ 0x30001010 → holds (tables .mixed) cost key ≡ true
+unfolding lexNum
 cut-holds cost key h k = go (ℕ-discrete cost 72)
   where
     less : cost ≤ 72 → cost ≢ 72 → cost < 72

@@ -17,7 +17,7 @@ use Rattle.search.specs.declared.Coord.{Coord}
 use Rattle.search.specs.Record.{coordAt, row, slotK, sqTo, member}
 use Rattle.search.specs.Base.{slotOf, towardOf, nowTo, stepped, baseNow, parTo, worstTo, baseBest}
 use Rattle.search.specs.Entries.{rankAt}
-use Rattle.search.specs.declared.Now.{Now}
+use Rattle.search.specs.declared.Candidate.{Candidate}
 use Rattle.search.specs.declared.Closed.{Closed}
 use Rattle.search.specs.Bound.{holds}
 use Rattle.nearest.specs.Laws.Keys.{markK, rank-forth, nib-ext}
@@ -70,7 +70,7 @@ module _ (ts : List Float) (p c : ℕ) (P0 : p < 2) (T0 : (j : ℕ) → j < 8 �
     d-is = row-d ts p c 0;
   }
 
-  abbrev CandN : (ℕ → ℤ) → Now → Type 0
+  abbrev CandN : (ℕ → ℤ) → Candidate → Type 0
   CandN k n = Cand ts p c k (n .cost) (n .key) (n .dist) ES
 
   abbrev k22 : ℕ → ℕ → ℤ

@@ -15,7 +15,7 @@ use Rattle.float.specs.Value.{magUnits, posUnits, negUnits, U}
 use Rattle.float.specs.Laws.Error.{halfUlp}
 use Rattle.float.specs.Laws.Near.{Near, near-self, near-more, near-mag-plain, near-zero}
 use Rattle.float.specs.Laws.Arithmetic.{near-sub, near-square}
-use Rattle.laws.specs.Whole.{gap}
+use Rattle.laws.specs.Words.{gap}
 use Rattle.float.specs.Laws.Exact.{ofInt-whole}
 use Rattle.float.specs.Laws.Margin.{apart, apart-le}
 use Rattle.float.specs.Distance.{coordGap}

@@ -14,7 +14,7 @@ use lib.Ieee.Scale.{finite}
 use Rattle.float.specs.Value.{magUnits, posUnits, negUnits, U, four64, one64}
 use Rattle.float.specs.Laws.Near.{Near, near-self, near-mag-plain, near-mag}
 use Rattle.float.specs.Laws.Arithmetic.{near-sub, near-quarter}
-use Rattle.laws.specs.Whole.{gap, posPart, negPart}
+use Rattle.laws.specs.Words.{gap, posPart, negPart}
 use Rattle.float.specs.Laws.Exact.{IsWhole, ofInt-whole, mag-parts, mul-one-is}
 use Rattle.float.specs.Calls.{absOf, roundAway, clamped, rounded}
 use Rattle.float.specs.Laws.Rounding.{near-regret, round-close, clamped-small, rounded-small}

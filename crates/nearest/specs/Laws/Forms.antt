@@ -6,7 +6,7 @@ use mathlib.Core.List.{List}
 use Prim.Native.Nat.{ℕ, zero, suc, _+_, _%_, _^_, _≤_, _<_}
 use lib.ListN.{getD}
 use lib.IntN.{ℤ, pos}
-use Rattle.laws.specs.Whole.{modZ}
+use Rattle.laws.specs.Words.{modZ}
 use Rattle.rank.specs.Vector.{sq}
 use Rattle.search.specs.declared.Closed.{Closed}
 use Rattle.search.specs.Bound.{holds}

@@ -9,7 +9,7 @@ use lib.Dec.{T, ltb, ltb→lt, nltb→le}
 use lib.IntN.{ℤ, pos, negsuc, negℤ, subℕ, natAbs, sucℤ, predℤ, _+ℤ_, _*ℤ_}
 use lib.Ieee.{Float}
 use Rattle.float.specs.Value.{posUnits, negUnits, U}
-use Rattle.laws.specs.Whole.{gap, posPart, negPart}
+use Rattle.laws.specs.Words.{gap, posPart, negPart}
 use Rattle.float.specs.Distance.{coordGap}
 use Rattle.search.specs.Record.{member}
 use Rattle.nearest.specs.Laws.Forms.{oddK}

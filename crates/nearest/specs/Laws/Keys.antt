@@ -9,8 +9,9 @@ use lib.Dec.{T, ltb, eqb, ltb→lt, lt→ltb, eqb→eq}
 use lib.Pow.{pow-add}
 use lib.Bits.{bitAnd, bitOr, or-shr, or-mod, and-shr, and-mod, or-zero-l, or-zero-r, and-zero-r}
 use lib.IntN.{ℤ, pos, negsuc, ℤ-discrete}
-use Rattle.laws.specs.Tests.{upto, below, below2, is-true}
-use Rattle.laws.specs.Whole.{modZ, divZ, mod4-lt, posPart, negPart}
+use Rattle.laws.specs.Laws.Tests.{upto, below, below2, is-true}
+use Rattle.laws.specs.Words.{modZ, divZ, posPart, negPart}
+use Rattle.laws.specs.Laws.Whole.{mod4-lt}
 use Rattle.rank.specs.Coord.{rankOf, valOf}
 use Rattle.rank.specs.Laws.Coord.{member-of, val-rank}
 use Rattle.rank.specs.Answers.{markOf, reach, noRank}

@@ -10,15 +10,16 @@ use lib.Dec.{T}
 use lib.ListN.{getD, length, drop}
 use lib.Seq.{getD-take, getD-drop}
 use lib.IntN.{ℤ, pos}
-use Rattle.laws.specs.Whole.{modZ, mod2-lt}
-use Rattle.laws.specs.Bits.{weight}
+use Rattle.laws.specs.Words.{modZ}
+use Rattle.laws.specs.Laws.Whole.{mod2-lt}
+use Rattle.laws.specs.Words.{weight}
 use Rattle.rank.specs.Coord.{parityOf, bitOf, kOf}
 use Rattle.rank.specs.Laws.Coord.{residue, halves}
 use Rattle.rank.specs.Vector.{ranksBelow, class, kZero, boundCost, boundCut, middleCost, middleCut}
 use Rattle.rank.specs.Section.{uniform, bitsOf, kSum}
 use Rattle.rank.specs.Laws.Vector.{below-up, class-ranks, middle-class}
 use Rattle.trellis.specs.Tables.{prefixes, middles, nexts, suffixes}
-use Rattle.trellis.specs.Code.{wordOf, columns, first, second, third}
+use Rattle.trellis.specs.Code.{codewordOf, columns, first, second, third}
 use Rattle.trellis.specs.Laws.Code.{label-low, word-lt, bytes-even}
 use Rattle.trellis.specs.Trellis.{prefixOf, middleOf, nextOf, suffixOf}
 use Rattle.trellis.specs.Laws.Path.{path-at, first-at, second-at, third-at}
@@ -59,7 +60,7 @@ byte3 x h =
     suffix-read (nextOf (x % 64) (x / 128 % 16)) (x / 2048 % 2) (bit-lt (x / 2048))
     ∙ ap₂ (λ (s b : ℕ). getD suffixes (2 * s + b) 0) (next-read (x % 64) (x / 128 % 16) (branch-lt (x / 128))) (top x h)
 
-path-is : (x : ℕ) → x < 4096 → wordOf columns x ≡ pathOf tables x
+path-is : (x : ℕ) → x < 4096 → codewordOf columns x ≡ pathOf tables x
 path-is x h = path-at x ∙ ap₂ (λ (a b : ℕ). a + 65536 * b) (ap₂ (λ (a b : ℕ). a + 256 * b) (byte1 x) (byte2 x)) (byte3 x h)
 
 -- ---- a lattice point of document 01, in trio order
@@ -74,14 +75,14 @@ module _ (y : List ℤ) (Y : LatticePoint y) where
   unfolding label
   label-lt = mod-lt (Y .codeword .label) (zero-lt-suc 4095)
 
-  word-is : wordOf columns label ≡ bitsOf (trio y)
+  word-is : codewordOf columns label ≡ bitsOf (trio y)
   unfolding label
   word-is = label-low (Y .codeword .label) ∙ Y .codeword .made
 
   inside : (j : ℕ) → j < 24 → j < length (trio y)
   inside j h = subst (λ (n : ℕ). j < n) (sym (trio-length y)) h
 
-  bit-is : (j : ℕ) → j < 24 → bitOf (at24 (trio y) j) ≡ bitAt (wordOf columns label) j
+  bit-is : (j : ℕ) → j < 24 → bitOf (at24 (trio y) j) ≡ bitAt (codewordOf columns label) j
   bit-is j h = sym (bits-at (trio y) j (inside j h)) ∙ ap (λ (w : ℕ). bitAt w j) (sym word-is)
 
   parity-is : (j : ℕ) → j < 24 → parityOf (at24 (trio y) j) ≡ Y .p
@@ -119,7 +120,7 @@ module _ (y : List ℤ) (W : HasWord y) where
   x = label y (W .point)
 
   abbrev word : ℕ
-  word = wordOf columns x
+  word = codewordOf columns x
 
   part-at : (s j : ℕ) → j < 8 → getD (section y s) j (pos 0) ≡ at24 (trio y) (8 * s + j)
   part-at s j h = getD-take 8 (drop (8 * s) (trio y)) j (pos 0) h ∙ getD-drop (8 * s) (trio y) j (pos 0)
@@ -246,10 +247,10 @@ module _ (z : List ℤ) (L : LeechTrio tables z) where
   back : trio (natural z) ≡ z
   back = trio-natural z (L .len)
 
-  bits-are : wordOf columns (L .x) ≡ bitsOf z
+  bits-are : codewordOf columns (L .x) ≡ bitsOf z
   bits-are =
       sym
-      (bits-from z (wordOf columns (L .x)) (subst (λ (n : ℕ). wordOf columns (L .x) < 2 ^ n) (sym (L .len)) (word-lt (L .x)))
+      (bits-from z (codewordOf columns (L .x)) (subst (λ (n : ℕ). codewordOf columns (L .x) < 2 ^ n) (sym (L .len)) (word-lt (L .x)))
       (λ j h. bit-of j (within-24 j h) ∙ ap (λ (w : ℕ). bitAt w j) (sym (path-is (L .x) (L .x-lt)))))
 
   pub lattice : LatticePoint (natural z)

@@ -11,7 +11,7 @@ use lib.Seq.{ext-getD}
 use lib.IntN.{ℤ, pos}
 use lib.Ieee.{Float, nan, binary64, fits}
 use lib.Ieee.Scale.{finite}
-use Rattle.laws.specs.Lists.{tab-at, tab-length}
+use Rattle.laws.specs.Laws.Lists.{tab-at, tab-length}
 use Rattle.float.specs.Distance.{coordGap, sqDist, margin}
 use Rattle.trellis.specs.Trio.{order}
 use Rattle.trellis.specs.Laws.Trio.{trio-fits}
@@ -22,7 +22,7 @@ use Rattle.search.specs.declared.Winner.{Winner}
 use Rattle.search.specs.Tables.{tables}
 use Rattle.search.specs.Entries.{Rule}
 use Rattle.search.specs.Parity.{search}
-use Rattle.search.specs.Block.{coordinate, trioOf, targetsOf, pointAt, place, pointFrom}
+use Rattle.search.specs.Block.{coordinate, trioOf, targetsOf, winnerAt, place, pointFrom}
 use Rattle.nearest.specs.Laws.Forms.{sumTo, RuleOk, at24}
 use Rattle.nearest.specs.Laws.Sums.{sum-same, sum-front}
 use Rattle.nearest.specs.Laws.Sections.{LeechTrio, sqDist24, point-at, is-found}
@@ -87,19 +87,19 @@ module _ (t : List Float) (len : length t ≡ 24) (fit : (j : ℕ) → j < 24 �
   abbrev answer : Winner
   answer = search tables u (targetsOf t) ps
 
-  at : (j : ℕ) → j < 24 → pointAt answer j ≡ at24 (trio y) j
+  at : (j : ℕ) → j < 24 → winnerAt answer j ≡ at24 (trio y) j
   at =
       point-at tables tables-bytes (trioOf t) ps PS (trio y) far tables-good tables-more u U0 (leech y (W .point)) searched (has-rows y W)
       fit' fin'
 
   is-point : pointFrom answer ≡ y
   is-point =
-      let size = tab-length ℤ (λ i. pointAt answer (place i)) 24 in
+      let size = tab-length ℤ (λ i. winnerAt answer (place i)) 24 in
       ext-getD (pos 0) (pointFrom answer) y (size ∙ sym (W .point .size))
       (λ i h.
       let l : i < 24 = subst (λ (n : ℕ). i < n) size h in
       let f = trio-fits i l in
-      tab-at ℤ (pos 0) (λ i. pointAt answer (place i)) 24 i l ∙ at (place i) (f .place-lt) ∙ trio-at y (place i) (f .place-lt)
+      tab-at ℤ (pos 0) (λ i. winnerAt answer (place i)) 24 i l ∙ at (place i) (f .place-lt) ∙ trio-at y (place i) (f .place-lt)
       ∙ ap (at24 y) (f .order-place))
 
   pub answered : (answer .found ≡ true) × (pointFrom answer ≡ y)

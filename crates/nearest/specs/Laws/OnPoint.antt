@@ -10,15 +10,15 @@ use lib.ListN.{getD, length, length-map}
 use lib.IntN.{ℤ, pos, natAbs, ℤ-discrete}
 use lib.Ieee.{Float, nan, binary64, fits, ofInt}
 use lib.Ieee.Scale.{finite}
-use Rattle.laws.specs.Lists.{map-at}
-use Rattle.laws.specs.Whole.{posPart, negPart, gap}
+use Rattle.laws.specs.Laws.Lists.{map-at}
+use Rattle.laws.specs.Words.{posPart, negPart, gap}
 use Rattle.float.specs.Value.{U}
 use Rattle.float.specs.Laws.Exact.{IsWhole, ofInt-whole}
 use Rattle.float.specs.Distance.{coordGap, sqDist, margin}
 use Rattle.tetra.specs.Lattice.{LatticePoint, HasWord}
 use Rattle.tetra.specs.Demand2.{onto, coordinate-small}
 use Rattle.nearest.specs.Laws.Ints.{apart-parts, less-or}
-use Rattle.nearest.specs.Demand3.{Target, doubles}
+use Rattle.nearest.specs.Nearest.{Target, doubles}
 
 -- ---- one coordinate: at the double of v, v is 0 away and every other whole number at least 1
 no-gap : (v : ℤ) (x : Float) → IsWhole x v → coordGap v x ≡ 0

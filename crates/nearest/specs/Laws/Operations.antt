@@ -8,7 +8,7 @@ use lib.Ieee.{Float, binary64, add, sub}
 use Rattle.float.specs.Value.{magUnits, U}
 use Rattle.float.specs.Laws.Near.{Near, near-mag}
 use Rattle.float.specs.Laws.Arithmetic.{near-add, near-sub}
-use Rattle.laws.specs.Whole.{gap}
+use Rattle.laws.specs.Words.{gap}
 
 abbrev pub Cap : ℕ
 Cap = 2 ^ 2169

@@ -11,10 +11,12 @@ use lib.Dec.{T, ltb, eqb, leb, lt→ltb, le→leb, lit≤}
 use lib.ListN.{getD, length, length-map}
 use lib.IntN.{ℤ, pos}
 use lib.Pow.{shr-shr, pow-add}
-use Rattle.laws.specs.Tests.{is-true, or-left, or-right, and-in, eq→eqb}
-use Rattle.laws.specs.Order.{lexLe, pick3-out}
-use Rattle.laws.specs.Whole.{modZ, divZ, mod2-lt, parity-add}
-use Rattle.laws.specs.Bits.{weight}
+use Rattle.laws.specs.Laws.Tests.{is-true, or-left, or-right, and-in, eq→eqb}
+use Rattle.laws.specs.Words.{lexLe}
+use Rattle.laws.specs.Laws.Order.{pick3-out}
+use Rattle.laws.specs.Words.{modZ, divZ}
+use Rattle.laws.specs.Laws.Whole.{mod2-lt, parity-add}
+use Rattle.laws.specs.Words.{weight}
 use Rattle.rank.specs.Coord.{bitOf, kOf, rankOf, valOf}
 use Rattle.rank.specs.Vector.{ranksBelow, sq, cost, class, kZero, pack, unpack, within, boundCost, boundCut}
 use Rattle.rank.specs.Laws.Vector.{rank-first, rank-rest, unpack-at, unpack-pack, below-up}

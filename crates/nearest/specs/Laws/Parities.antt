@@ -10,7 +10,7 @@ use lib.Dec.{T, lit≤}
 use lib.ListN.{getD}
 use lib.IntN.{ℤ}
 use lib.Ieee.{Float, lt}
-use Rattle.laws.specs.Tests.{is-true}
+use Rattle.laws.specs.Laws.Tests.{is-true}
 use Rattle.search.specs.Tables.{Tables}
 use Rattle.search.specs.Entries.{Rule, endStart, midStart}
 use Rattle.search.specs.Parity.{Targets, parity, nobody, search, searchOver, choose, costOf, lastSides, seedOf}

@@ -8,7 +8,8 @@ use native.Mathlib.Nat.{mod-lt, zero-lt-suc}
 use native.Mathlib.Omega.{arith}
 use lib.ListN.{getD}
 use lib.Ieee.{Float, nan, lt}
-use Rattle.laws.specs.Lists.{tab, tab-at}
+use Rattle.laws.specs.Words.{tab}
+use Rattle.laws.specs.Laws.Lists.{tab-at}
 use Rattle.search.specs.Tables.{Tables}
 use Rattle.search.specs.Entries.{Rule, endResolve, endStart, midStart}
 use Rattle.search.specs.Parity.{Targets, Seed, closed, starts, solved1, solved2, solved3, fixed, seeded, lower}

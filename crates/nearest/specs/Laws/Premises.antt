@@ -18,7 +18,7 @@ use Rattle.float.specs.Laws.Error.{halfUlp}
 use Rattle.float.specs.Laws.Arithmetic.{mul-rounded}
 use Rattle.float.specs.Laws.Near.{near-more}
 use Rattle.rank.specs.Coord.{valOf}
-use Rattle.laws.specs.Tests.{upto, below, split3}
+use Rattle.laws.specs.Laws.Tests.{upto, below, split3}
 use Rattle.search.specs.Tables.{Tables, classOf, endByte, fallbackAt}
 use Rattle.search.specs.Entries.{Rule, rankAt, sectionAt, fallback, endStart, midStart}
 use Rattle.search.specs.Parity.{Targets, search}

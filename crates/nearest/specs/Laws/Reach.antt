@@ -12,11 +12,11 @@ use lib.IntN.{ℤ, pos, negsuc, natAbs, sucℤ, predℤ}
 use lib.Ieee.{Float, binary64, fits}
 use lib.Ieee.Scale.{finite}
 use Rattle.float.specs.Value.{magUnits, isMinus, posUnits, negUnits, U}
-use Rattle.laws.specs.Whole.{gap, posPart, negPart}
+use Rattle.laws.specs.Words.{gap, posPart, negPart}
 use Rattle.float.specs.Laws.Exact.{parts, mag-parts}
 use Rattle.float.specs.Distance.{coordGap}
 use Rattle.rank.specs.Coord.{valOf}
-use Rattle.laws.specs.Tests.{upto, below2}
+use Rattle.laws.specs.Laws.Tests.{upto, below2}
 use Rattle.search.specs.Record.{member}
 use Rattle.search.specs.Entries.{rankAt}
 use Rattle.search.specs.declared.Closed.{Closed}

@@ -17,7 +17,7 @@ use Rattle.rank.specs.Vector.{sq}
 use Rattle.search.specs.declared.Coord.{Coord}
 use Rattle.search.specs.Record.{coordAt, slotK, row}
 use Rattle.search.specs.declared.Closed.{Closed}
-use Rattle.search.specs.declared.Now.{Now}
+use Rattle.search.specs.declared.Candidate.{Candidate}
 use Rattle.search.specs.declared.Best.{Best}
 use Rattle.search.specs.declared.Top.{Top}
 use Rattle.search.specs.Bound.{holds}
@@ -222,7 +222,7 @@ module _ (p c : ℕ) (e : List Coord) (R : Slots p c e) where
       (ap₂ (λ (x y : ℕ). keyMoved (now .key) i x l y) (R .rank-is i fj I0 F1 ∙ ap (markK (oAt p c i)) (sym at-i))
       (R .rank-is l f2 L0 F2 ∙ ap (markK (oAt p c l)) (sym at-l)))
     where
-      now : Now
+      now : Candidate
       now = nowTo e j0 fix 8
 
       at-i : kPair e j0 fix i fj l f2 i ≡ slotK (coordAt e i .k0) fj
@@ -285,7 +285,7 @@ module _ (Q : ℕ → Float → Type 0) (want : ℕ) (W0 : want < 2) (bound : Cl
     abbrev kL : ℕ → ℤ
     kL = kBase e (top .j0) fix
 
-    abbrev now : Now
+    abbrev now : Candidate
     now = nowTo e (top .j0) fix 8
 
     f5 : fixOf e want (top .j0) < 5

@@ -14,15 +14,16 @@ use lib.IntN.{ℤ, pos, ℤ-discrete}
 use lib.Ieee.{Float, nan, binary64, fits}
 use lib.Ieee.Scale.{finite}
 use Rattle.float.specs.Distance.{coordGap}
-use Rattle.laws.specs.Lists.{tab, tab-at, tab-length}
-use Rattle.laws.specs.Order.{le-or-lt}
+use Rattle.laws.specs.Words.{tab}
+use Rattle.laws.specs.Laws.Lists.{tab-at, tab-length}
+use Rattle.laws.specs.Laws.Order.{le-or-lt}
 use Rattle.search.specs.Tables.{Tables, classOf}
 use Rattle.search.specs.Entries.{Rule}
 use Rattle.search.specs.Parity.{Targets, search}
 use Rattle.search.specs.Record.{member, bitAt}
 use Rattle.search.specs.declared.Closed.{Closed}
 use Rattle.search.specs.declared.Winner.{Winner}
-use Rattle.search.specs.Block.{sections, pointAt}
+use Rattle.search.specs.Block.{sections, winnerAt}
 use Rattle.nearest.specs.Laws.Forms.{oddK, sumTo, parK, RowOf, RuleOk, at24}
 use Rattle.nearest.specs.Laws.Sums.{sum-same}
 use Rattle.nearest.specs.Laws.Lattice.{Sec, Point, Same, dist8, dist24, Margin, M, own1, own2, own3}
@@ -397,9 +398,9 @@ module _ (g : Tables) (B : Bytes g) where
         is-y : IsY g u S G0 ps PS (λ q i. all-facts g G1 u U0 S small1 small2 small3 q (PS q i)) (sec1 y) (sec2 y) (sec3 y) margin (search g u S ps)
         is-y = demand-three g G0 G1 u U0 S small1 small2 small3 ps PS (L .p) I0 (sec1 y) (sec2 y) (sec3 y) Y W margin
 
-        pub point-at : (j : ℕ) → j < 24 → pointAt (search g u (sections t) ps) j ≡ at24 y j
+        pub point-at : (j : ℕ) → j < 24 → winnerAt (search g u (sections t) ps) j ≡ at24 y j
         unfolding glue
-        point-at = all24 (λ j. pointAt (search g u (sections t) ps) j ≡ at24 y j)
+        point-at = all24 (λ j. winnerAt (search g u (sections t) ps) j ≡ at24 y j)
             (λ j h. glue1 (secOf (w .p) (w .s1)) (secOf (w .p) (w .s2)) (secOf (w .p) (w .s3)) j h ∙ is-y .one j h)
             (λ j h. glue2 (secOf (w .p) (w .s1)) (secOf (w .p) (w .s2)) (secOf (w .p) (w .s3)) j h ∙ is-y .two j h)
             (λ j h. glue3 (secOf (w .p) (w .s1)) (secOf (w .p) (w .s2)) (secOf (w .p) (w .s3)) j h ∙ is-y .three j h)

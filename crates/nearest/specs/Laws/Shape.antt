@@ -14,9 +14,9 @@ use lib.ListN.{getD}
 use lib.Bits.{bitOr, bitAnd, or-lt, and-le-l}
 use lib.IntN.{ℤ, pos, natAbs, _+ℤ_, _-ℤ_}
 use lib.Ieee.{Float, nan, binary64, add}
-use Rattle.laws.specs.Lists.{tab-at}
-use Rattle.laws.specs.Tests.{upto, below, cond-same}
-use Rattle.laws.specs.Whole.{posPart, negPart}
+use Rattle.laws.specs.Laws.Lists.{tab-at}
+use Rattle.laws.specs.Laws.Tests.{upto, below, cond-same}
+use Rattle.laws.specs.Words.{posPart, negPart}
 use Rattle.rank.specs.Coord.{valOf}
 use Rattle.rank.specs.Vector.{sq}
 use Rattle.search.specs.declared.Coord.{Coord}

@@ -12,7 +12,7 @@ use Rattle.float.specs.Laws.Near.{Near}
 use Rattle.search.specs.declared.Coord.{Coord}
 use Rattle.search.specs.Record.{coordAt, slotK, row, member, sqTo}
 use Rattle.search.specs.declared.Closed.{Closed}
-use Rattle.search.specs.declared.Now.{Now}
+use Rattle.search.specs.declared.Candidate.{Candidate}
 use Rattle.search.specs.Base.{slotOf, nowTo}
 use Rattle.search.specs.Solve.{movedD, movedC, keyMoved, solve}
 use Rattle.nearest.specs.Laws.Forms.{sumTo}
@@ -31,7 +31,7 @@ module _ (ts : List Float) (p c : ℕ) (P0 : p < 2) (T0 : (j : ℕ) → j < 8 �
   Q key d = Stands p c want ts key d
 
   module _ (e : List Coord) (R : Row ts p c e) (j0 fix : ℕ) (F0 : fix < 5) where
-    abbrev now : Now
+    abbrev now : Candidate
     now = nowTo e j0 fix 8
 
     base : Cand ts p c (kBase e j0 fix) (now .cost) (now .key) (now .dist) (8 * (ET + H))

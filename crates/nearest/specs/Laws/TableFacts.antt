@@ -1,20 +1,17 @@
--- The facts of the search's constant tables that the theorem asks for, the branches by a computed test, the fallbacks as members of
--- their regions. Assumes nothing.
-use mathlib.Core.Path.{_≡_, refl, sym, ap, _∙_, subst}
-use mathlib.Core.Bool.{Bool, _&&_}
+-- The facts of the search's constant tables that the theorem asks for, the fallbacks as members of their regions. Assumes nothing.
+use mathlib.Core.Path.{_≡_, ap, _∙_, subst}
 use Prim.Native.Nat.{ℕ, _+_, _*_, _/_, _%_, _<_}
 use native.Mathlib.Nat.{le-refl, mod-lt, zero-lt-suc, mul-comm}
 use native.Mathlib.Omega.{arith}
-use lib.Dec.{T, ltb, eqb, ltb→lt, eqb→eq, lit≤}
-use lib.ListN.{getD, length}
-use Rattle.laws.specs.Tests.{and-left, and-right}
-use Rattle.laws.specs.Tables.{every2, at2}
+use lib.Dec.{lit≤}
+use lib.ListN.{getD}
 use Rattle.rank.specs.Vector.{unpack}
 use Rattle.rank.specs.Laws.Vector.{unpack-at, below-at}
 use Rattle.trellis.specs.Tables.{prefixes, middles, nexts, suffixes}
 use Rattle.trellis.specs.Trellis.{prefixOf, middleOf, nextOf, suffixOf}
 use Rattle.trellis.specs.Laws.Path.{row-at, prefix-lt, middle-lt, next-lt}
-use Rattle.search.specs.Tables.{tables, middleSets, branchEntries}
+use Rattle.search.specs.Tables.{tables}
+use Rattle.search.specs.Laws.Tables.{entry-at, entry-byte}
 use Rattle.fallbacks.specs.Region.{InRegion, byteOf, keyOf}
 use Rattle.fallbacks.specs.Fallbacks.{fallback-least}
 use Rattle.fallbacks.specs.Laws.Member.{member-class, member-ranks, member-lt, member-even}
@@ -57,30 +54,9 @@ next-at k =
     whole : (k : ℕ) → k / 16 * 16 + k % 16 ≡ k
     whole k = omega arith
 
-branch : ℕ → ℕ → ℕ → Bool
-branch k x c = ltb x 128 && eqb (getD middleSets x 0) c
-
-branches : T (every2 branch 0 branchEntries middles)
-unfolding branch branchEntries middles middleSets
-branches = tt
-
-entries-length : length branchEntries ≡ 1024
-unfolding branchEntries
-entries-length = refl
-
-branch-at : (k : ℕ) → k < 1024 → T (branch k (getD branchEntries k 0) (getD middles k 0))
-branch-at k h = at2 branch branchEntries middles branches k (subst (λ (n : ℕ). k < n) (sym entries-length) h)
-
 pub tables-good : GoodTables tables
-unfolding branch
 tables-good =
-    record {
-      ix-lt = λ k h. ltb→lt (getD branchEntries k 0) 128
-          (and-left (ltb (getD branchEntries k 0) 128) (eqb (getD middleSets (getD branchEntries k 0) 0) (getD middles k 0)) (branch-at k h));
-      nxt-lt = λ k h. next-at k;
-      ix-byte = λ k h. eqb→eq (getD middleSets (getD branchEntries k 0) 0) (getD middles k 0)
-          (and-right (ltb (getD branchEntries k 0) 128) (eqb (getD middleSets (getD branchEntries k 0) 0) (getD middles k 0)) (branch-at k h));
-    }
+    record { ix-lt = λ k h. omega (arith, entry-at k h); nxt-lt = λ k h. next-at k; ix-byte = entry-byte }
 
 -- ---- fallbacks: members of their regions, so a byte of the state, ranks below 8, the class of the region
 pub entry-in : (kind p r st : ℕ) → kind < 2 → p < 2 → r < 2 → st < 64 → InRegion kind r st (byteOf kind p r st) (keyOf kind p r st)

@@ -5,12 +5,13 @@ use mathlib.Core.Path.{_≡_, sym, ap, _∙_}
 use mathlib.Core.List.{List}
 use Prim.Native.Nat.{ℕ, _-_, _≤_}
 use lib.ListN.{length, take, drop}
-use Rattle.page.specs.declared.line.Line.the-variants.{Good, Bad}
-use Rattle.page.specs.Text.{bytes}
+use Rattle.text.specs.declared.line.Line.the-variants.{Good, Bad}
+use Rattle.text.specs.Text.{bytes}
+use Rattle.text.specs.Lines.{decimalLineAt}
+use Rattle.text.specs.Laws.Lines.{decimal-rule, tail, line-fits}
 use Rattle.page.specs.Answer.{parsedOf}
-use Rattle.page.specs.Reader.{formatAt, decimalLineAt, numAt, countAt, wordsAt, readingOf}
-use Rattle.page.specs.Laws.Reader.{format-rule, decimal-rule}
-use Rattle.page.proofs.Reading.{tail, line-fits}
+use Rattle.page.specs.Reader.{formatAt, numAt, countAt, wordsAt, readingOf}
+use Rattle.page.specs.Laws.Reader.{format-rule}
 use Rattle.page.proofs.parse.Statement.{statement}
 use Rattle.page.proofs.parse.Tie as tie
 

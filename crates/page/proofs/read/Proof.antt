@@ -5,9 +5,10 @@ use native.Mathlib.Omega.{arith}
 use mathlib.Core.Path.{refl, _∙_}
 use Prim.Native.Nat.{_*_, _<_}
 use lib.ListN.{length}
-use Rattle.page.specs.Answer.{readOf, cellsOf}
+use Rattle.page.specs.Answer.{numberIn, wordsIn, countsIn, readOf, cellsOf}
 use Rattle.page.specs.Reader.{readingOf}
-use Rattle.page.proofs.Answering.{Accepted, refused-number, some-page, answered, stored}
+use Rattle.page.specs.Laws.Answer.{Accepted, refused-number, some-page}
+use Rattle.page.proofs.Answering.{answered, stored}
 use Rattle.page.proofs.read.Statement.{statement}
 use Rattle.page.proofs.read.Tie as tie
 
@@ -15,7 +16,7 @@ parse-requires : tie.Need-parse-requires
 parse-requires c κs = search needs
 
 returns : tie.Need-returns
-unfolding readOf cellsOf
+unfolding readOf cellsOf numberIn wordsIn countsIn
 returns c =
     let p = c .before .parse in
     let q = refused-number (readingOf (c .before .before .before .args .text .now)) (p .result) (p .ensures) (c .if1 .taken) in
@@ -29,7 +30,7 @@ mul-if2 : tie.Need-mul-if2
 mul-if2 c = omega (arith, accepted c .count-most)
 
 returns-2 : tie.Need-returns-2
-unfolding readOf cellsOf
+unfolding readOf cellsOf numberIn wordsIn countsIn
 returns-2 c =
     let p = accepted (c .before) in
     let h : length (c .before .before .before .before .args .out .now) < 24 * length (p .words) = omega (arith, c .if2 .taken, p .count) in

@@ -7,12 +7,12 @@ use mathlib.Core.Path.{_≡_, sym, ap, _∙_}
 use mathlib.Core.List.{List}
 use Prim.Native.Nat.{ℕ, _+_, _-_, _≤_}
 use lib.ListN.{length, drop, length-drop}
-use Rattle.page.specs.declared.line.Line.the-variants.{Good}
+use Rattle.text.specs.declared.line.Line.the-variants.{Good}
+use Rattle.text.specs.Laws.Lines.{tail, line-fits}
 use Rattle.page.specs.Page.{wordLine}
 use Rattle.page.specs.Answer.{parsedOf}
 use Rattle.page.specs.Reader.{wordLineAt}
 use Rattle.page.specs.Laws.Reader.{word-rule}
-use Rattle.page.proofs.Reading.{tail, line-fits}
 use Rattle.page.proofs.Words.{Kept, kept-bad, kept-long, kept-end, kept-next}
 use Rattle.page.proofs.words_of.Statement.{statement}
 use Rattle.page.proofs.words_of.Tie as tie

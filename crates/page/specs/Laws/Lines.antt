@@ -1,48 +1,26 @@
--- Lines taken off the front of a text, one by one: what the page rule says of each. Assumes nothing.
+-- The word lines, taken off the front of a text one by one. Assumes nothing.
 use mathlib.Core.Path.{_≡_, refl, ap, _∙_}
 use mathlib.Core.List.{List, [], _∷_, _++_}
 use Prim.Native.Nat.{ℕ, zero, suc, _*_, _^_, _<_, suc-le-suc}
 use native.Mathlib.Omega.{arith}
 use native.Mathlib.Nat.{zero-lt-suc, le-of-suc-le-suc, not-suc-le-zero}
-use lib.ListN.{length, drop, length-append}
-use lib.Seq.{drop-append-seam}
-use Rattle.page.specs.declared.line.Line.{Line}
-use Rattle.page.specs.declared.line.Line.the-variants.{Good, Bad}
+use lib.ListN.{length, length-append}
+use Rattle.text.specs.Laws.Lines.{step, taken}
 use Rattle.page.specs.Page.{Fit, wordLine, wordLines}
 use Rattle.page.specs.Answer.{Reading, page, malformed}
-use Rattle.page.specs.Reader.{onLine, wordLineAt, withWord, wordsAt}
-use Rattle.page.specs.Laws.Reader.{LineRule, word-rule, word-length}
+use Rattle.page.specs.Reader.{wordLineAt, withWord, wordsAt}
+use Rattle.page.specs.Laws.Reader.{word-rule, word-length}
 
 -- what is malformed is no page
 pub differ : {num : ℕ} {words : List ℕ} → malformed ≡ page num words → ⊥
 differ e = let z : _≡_ {A = ℕ} 0 1 = cc in omega arith
-
--- ---- any line
--- a line that is there is taken off
-pub step : (read : List ℕ → Line) (fine : ℕ → Type 0) (lineOf : ℕ → List ℕ) → LineRule read fine lineOf → (v : ℕ) → fine v
-    → (rest : List ℕ) (f : ℕ → List ℕ → Reading)
-    → onLine (read (lineOf v ++ rest)) malformed (λ x n. f x (drop n (lineOf v ++ rest))) ≡ f v rest
-step read fine lineOf rule v h rest f = rw (rule .back v h rest, drop-append-seam (lineOf v) rest)
-
--- a line was there: its value, and what follows it
-pub taken : (read : List ℕ → Line) (fine : ℕ → Type 0) (lineOf : ℕ → List ℕ) → LineRule read fine lineOf
-    → (s : List ℕ) (f : ℕ → List ℕ → Reading) (num : ℕ) (words : List ℕ) → onLine (read s) malformed (λ x n. f x (drop n s)) ≡ page num words
-    → (v : ℕ) × (rest : List ℕ) × fine v × (s ≡ lineOf v ++ rest) × (f v rest ≡ page num words)
-taken read fine lineOf rule s f num words = go (read s) refl
-  where
-    go : (l : Line) → read s ≡ l → onLine l malformed (λ x n. f x (drop n s)) ≡ page num words
-        → (v : ℕ) × (rest : List ℕ) × fine v × (s ≡ lineOf v ++ rest) × (f v rest ≡ page num words)
-    go (Good v n) h e =
-        let o = rule .only s v n h in
-        (v, drop n s, o .0, o .2, e)
-    go Bad h e = let z : _≡_ {A = ℕ} 0 1 = cc in absurd (omega arith)
 
 -- ---- the word lines
 pub words-back : (num : ℕ) (words : List ℕ) → Fit words → wordsAt num (length words) (wordLines words) ≡ page num words
 unfolding wordsAt wordLines
 words-back num [] f = refl
 words-back num (w ∷ ws) f =
-    step wordLineAt _ wordLine word-rule w (f zero (zero-lt-suc (length ws))) (wordLines ws) (λ x t. withWord x (wordsAt num (length ws) t))
+    step malformed wordLineAt _ wordLine word-rule w (f zero (zero-lt-suc (length ws))) (wordLines ws) (λ x t. withWord x (wordsAt num (length ws) t))
     ∙ ap (withWord w) (words-back num ws (λ k l. f (suc k) (suc-le-suc l)))
 
 fit-cons : (w : ℕ) (ws : List ℕ) → w < 2 ^ 48 → Fit ws → Fit (w ∷ ws)
@@ -58,7 +36,7 @@ words-only num zero [] x words e =
     (y, ap length z, rw (← z) (λ k l. absurd (not-suc-le-zero l)), ap wordLines z)
 words-only num zero (b ∷ s) x words e = let z : _≡_ {A = ℕ} 0 1 = cc in absurd (omega arith)
 words-only num (suc count) s x words e =
-    let t = taken wordLineAt _ wordLine word-rule s (λ w r. withWord w (wordsAt num count r)) x words e in
+    let t = taken malformed wordLineAt _ wordLine word-rule s (λ w r. withWord w (wordsAt num count r)) (page x words) differ e in
     go (t .0) (t .1) (t .2) (t .3) (wordsAt num count (t .1)) refl (t .4) (words-only num count (t .1))
   where
     go : (w : ℕ) (r : List ℕ) → w < 2 ^ 48 → s ≡ wordLine w ++ r → (R : Reading) → wordsAt num count r ≡ R → withWord w R ≡ page x words

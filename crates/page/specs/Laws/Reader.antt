@@ -1,256 +1,24 @@
--- Each line's reader accepts just the lines of its kind. Assumes nothing.
-use mathlib.Core.Path.{_≡_, refl, ap, ap₂, sym, _∙_}
-use mathlib.Core.Bool.{Bool, true, false, cond, _&&_, and-eq-true-iff}
+-- The readers of the format line and of a word line accept just these lines. Assumes nothing.
+use mathlib.Core.Path.{_≡_, refl, ap, sym, _∙_}
+use mathlib.Core.Bool.{Bool, true, false, cond}
 use mathlib.Core.List.{List, [], _∷_, _++_, append-assoc}
-use Prim.Native.Nat.{ℕ, zero, suc, _+_, _*_, _-_, _/_, _%_, _^_, _<_, _≤_}
+use Prim.Native.Nat.{ℕ, _^_, _<_}
 use native.Mathlib.Omega.{arith}
-use native.Mathlib.Nat.{pow-suc, zero-add, suc-add}
-use native.Mathlib.Numerals.{add-one}
-use borrow.Author.Tests.{lt-ltb, le-ltb, le-leb, lt-leb, eq-eqb, ne-eqb, ltb-true, ltb-false, leb-true, eqb-true, eqb-false}
-use lib.Dec.{ltb, leb, eqb}
-use lib.ListN.{length, getD, take, drop, length-append, take-append-drop, List·getD-eq-default}
-use lib.Seq.{take-suc, getD-at, drop-cons, drop-drop, drop-append-seam}
-use Rattle.page.specs.declared.line.Digit.{Digit}
-use Rattle.page.specs.declared.line.Digit.the-variants.{Value, Other}
-use Rattle.page.specs.declared.line.Line.{Line}
-use Rattle.page.specs.declared.line.Line.the-variants.{Good, Bad}
-use Rattle.page.specs.Text.{bytes, decimal, hex, hexDigit}
-use Rattle.page.specs.Laws.Text.{hex-length, decimal-small, decimal-more, decimal-step, decimal-some}
-use Rattle.page.specs.Page.{line, formatLine, wordLine}
-use Rattle.page.specs.Reader.{onLine, onDigit, begins, digitAt, hexAt, decimalAt, formatAt, decimalLineAt, wordLineAt}
+use borrow.Author.Tests.{eqb-true}
+use lib.Dec.{eqb}
+use lib.ListN.{length, getD, drop, length-append, take-append-drop}
+use lib.Seq.{getD-at, drop-cons, drop-drop}
+use Rattle.text.specs.declared.line.Digit.{Digit}
+use Rattle.text.specs.declared.line.Digit.the-variants.{Value, Other}
+use Rattle.text.specs.declared.line.Line.the-variants.{Good, Bad}
+use Rattle.text.specs.Text.{bytes, hex}
+use Rattle.text.specs.Lines.{onDigit, begins, hexAt}
+use Rattle.text.specs.Laws.Text.{hex-length}
+use Rattle.text.specs.Laws.Lines.{LineRule, begins-back, begins-only, hex-back, hex-only, there}
+use Rattle.page.specs.Page.{formatLine, wordLine}
+use Rattle.page.specs.Reader.{formatAt, wordLineAt}
 
--- ---- a digit
-module _ (b : ℕ) where
-  pub below-figures : b < 48 → digitAt b ≡ Other
-  unfolding digitAt
-  below-figures h = rw (lt-ltb b 48 h)
-
-  pub figure : 48 ≤ b → b ≤ 57 → digitAt b ≡ Value (b - 48)
-  unfolding digitAt
-  figure h k = rw (le-ltb b 48 h, le-leb b 57 k)
-
-  pub below-letters : 57 < b → b < 97 → digitAt b ≡ Other
-  unfolding digitAt
-  below-letters h k = rw (le-ltb b 48 (omega arith), lt-leb b 57 h, lt-ltb b 97 k)
-
-  pub letter : 97 ≤ b → b ≤ 102 → digitAt b ≡ Value (b - 87)
-  unfolding digitAt
-  letter h k = rw (le-ltb b 48 (omega arith), lt-leb b 57 (omega arith), le-ltb b 97 h, le-leb b 102 k)
-
-  pub above-letters : 102 < b → digitAt b ≡ Other
-  unfolding digitAt
-  above-letters h = rw (le-ltb b 48 (omega arith), lt-leb b 57 (omega arith), le-ltb b 97 (omega arith), lt-leb b 102 h)
-
-pub digit-back : (d : ℕ) → d < 16 → digitAt (hexDigit d) ≡ Value d
-digit-back d h = go (ltb d 10) refl
-  where
-    go : (p : Bool) → ltb d 10 ≡ p → digitAt (cond p (48 + d) (87 + d)) ≡ Value d
-    go true e = figure (48 + d) (omega arith) (omega (arith, ltb-true d 10 e)) ∙ ap Value (omega arith)
-    go false e = letter (87 + d) (omega (arith, ltb-false d 10 e)) (omega arith) ∙ ap Value (omega arith)
-
-pub digit-only : (b d : ℕ) → digitAt b ≡ Value d → (d < 16) × (hexDigit d ≡ b) × (0 < b)
-unfolding digitAt
-digit-only b d = go (ltb b 48) (leb b 57) (ltb b 97) (leb b 102) refl refl refl refl
-  where
-    go : (p q r t : Bool) → ltb b 48 ≡ p → leb b 57 ≡ q → ltb b 97 ≡ r → leb b 102 ≡ t
-        → cond p Other (cond q (Value (b - 48)) (cond r Other (cond t (Value (b - 87)) Other))) ≡ Value d
-        → (d < 16) × (hexDigit d ≡ b) × (0 < b)
-    go true q r t hp hq hr ht e = let z : _≡_ {A = ℕ} 0 1 = cc in absurd (omega arith)
-    go false true r t hp hq hr ht e =
-        let z : b - 48 ≡ d = cc in
-        let l = ltb-false b 48 hp in
-        let m = leb-true b 57 hq in
-        (omega arith, rw (lt-ltb d 10 (omega arith)) (omega arith), omega arith)
-    go false false true t hp hq hr ht e = let z : _≡_ {A = ℕ} 0 1 = cc in absurd (omega arith)
-    go false false false true hp hq hr ht e =
-        let z : b - 87 ≡ d = cc in
-        let l = ltb-false b 97 hr in
-        let m = leb-true b 102 ht in
-        (omega arith, rw (le-ltb d 10 (omega arith)) (omega arith), omega arith)
-    go false false false false hp hq hr ht e = let z : _≡_ {A = ℕ} 0 1 = cc in absurd (omega arith)
-
--- ---- a row of digits
-pub hex-back : (k v : ℕ) (rest : List ℕ) → v < 16 ^ k → hexAt k (hex k v ++ rest) ≡ Value v
-unfolding hexAt hex
-hex-back zero v rest h = ap Value (omega arith)
-hex-back (suc k) v rest h =
-    rw (
-      append-assoc,
-      hex-back k (v / 16) (hexDigit (v % 16) ∷ rest) (omega (arith, pow-suc 16 k)),
-      getD-at (hex k (v / 16)) (hexDigit (v % 16)) rest 0 k (hex-length k (v / 16)),
-      digit-back (v % 16) (omega arith),
-    )
-    (ap Value (omega arith))
-
--- a byte other than 0 stands within the text
-there : (s : List ℕ) (k b : ℕ) → getD s k 0 ≡ b → 0 < b → k < length s
-there s k b e h = go (ltb k (length s)) refl
-  where
-    go : (p : Bool) → ltb k (length s) ≡ p → k < length s
-    go true q = ltb-true k (length s) q
-    go false q = absurd (omega (arith, e, List·getD-eq-default s 0 (ltb-false k (length s) q)))
-
-pub hex-only : (k : ℕ) (s : List ℕ) (v : ℕ) → hexAt k s ≡ Value v → (v < 16 ^ k) × (take k s ≡ hex k v)
-unfolding hexAt hex
-hex-only zero s v e = let z : 0 ≡ v = cc in (omega arith, refl)
-hex-only (suc k) s v e = go (hexAt k s) (digitAt (getD s k 0)) refl refl e (hex-only k s)
-  where
-    go : (x y : Digit) → hexAt k s ≡ x → digitAt (getD s k 0) ≡ y
-        → onDigit x Other (λ u. onDigit y Other (λ d. Value (u * 16 + d))) ≡ Value v
-        → ((u : ℕ) → hexAt k s ≡ Value u → (u < 16 ^ k) × (take k s ≡ hex k u))
-        → (v < 16 ^ suc k) × (take (suc k) s ≡ hex k (v / 16) ++ (hexDigit (v % 16) ∷ []))
-    go (Value u) (Value d) hx hy e ih =
-        let z : u * 16 + d ≡ v = cc in
-        let o = digit-only (getD s k 0) d hy in
-        let i = ih u hx in
-        let q : v / 16 ≡ u = omega (arith, o .0) in
-        let r : v % 16 ≡ d = omega (arith, o .0) in (
-          omega (arith, o .0, i .0, pow-suc 16 k),
-          take-suc s k 0 (there s k (getD s k 0) refl (o .2)) ∙ rw (q, r, i .1, o .1),
-        )
-    go (Value u) Other hx hy e ih = let z : _≡_ {A = ℕ} 0 1 = cc in absurd (omega arith)
-    go Other y hx hy e ih = let z : _≡_ {A = ℕ} 0 1 = cc in absurd (omega arith)
-
--- once a byte is no digit, no longer row is one
-pub hex-other : (i k : ℕ) (s : List ℕ) → hexAt k s ≡ Other → hexAt (i + k) s ≡ Other
-unfolding hexAt
-hex-other zero k s e = rw zero-add e
-hex-other (suc i) k s e = rw (suc-add, hex-other i k s e)
-
--- ---- a key
-pub begins-back : (key rest : List ℕ) → begins (key ++ rest) key ≡ true
-unfolding begins
-begins-back [] [] = refl
-begins-back [] (b ∷ rest) = refl
-begins-back (k ∷ key) rest = rw (eq-eqb k k refl) (begins-back key rest)
-
-pub begins-only : (s key : List ℕ) → begins s key ≡ true → s ≡ key ++ drop (length key) s
-unfolding begins
-begins-only [] [] e = refl
-begins-only (b ∷ s) [] e = refl
-begins-only [] (k ∷ key) e = let z : _≡_ {A = ℕ} 0 1 = cc in absurd (omega arith)
-begins-only (b ∷ s) (k ∷ key) e =
-    let p = and-eq-true-iff (eqb b k) (begins s key) .0 e in
-    ap₂ {C = List ℕ} (λ x l. x ∷ l) (eqb-true b k (p .0)) (begins-only s key (p .1))
-
--- ---- a decimal number up to LF
--- no digit follows a leading zero
-no-lead : (v j : ℕ) → (0 < j → 0 < v) → (ltb 0 j && eqb v 0) ≡ false
-no-lead v zero h = refl
-no-lead v (suc j) h = rw (lt-ltb 0 (suc j) (omega arith)) (ne-eqb v 0 (λ e. omega (arith, h (omega arith))))
-
-one-digit : (most v j d : ℕ) (rest : List ℕ) → d < 10 → v * 10 + d ≤ most → (0 < j → 0 < v)
-    → decimalAt most v j ((48 + d) ∷ rest) ≡ decimalAt most (v * 10 + d) (j + 1) rest
-unfolding decimalAt
-one-digit most v j d rest hd hm hv =
-    let e : 48 + d - 48 ≡ d = omega arith in
-    rw (
-      ne-eqb (48 + d) 10 (λ q. omega arith),
-      le-ltb (48 + d) 48 (omega arith),
-      le-ltb 57 (48 + d) (omega arith),
-      e,
-      le-ltb most (v * 10 + d) hm,
-      no-lead v j hv,
-    )
-
-digits-back : (most f x : ℕ) (rest : List ℕ) → x < f → x ≤ most
-    → decimalAt most 0 0 (decimal x ++ rest) ≡ decimalAt most x (length (decimal x)) rest
-digits-back most zero x rest hf hm = absurd (omega arith)
-digits-back most (suc f) x rest hf hm =
-    go (ltb x 10) refl (λ h r. digits-back most f (x / 10) r (omega arith) (omega arith))
-  where
-    go : (p : Bool) → ltb x 10 ≡ p
-        → (10 ≤ x → (r : List ℕ) → decimalAt most 0 0 (decimal (x / 10) ++ r) ≡ decimalAt most (x / 10) (length (decimal (x / 10))) r)
-        → decimalAt most 0 0 (decimal x ++ rest) ≡ decimalAt most x (length (decimal x)) rest
-    go true e ih =
-        let l = ltb-true x 10 e in
-        rw (decimal-small x l) (rw zero-add at (one-digit most 0 0 x rest l (omega arith) (λ h. h)))
-    go false e ih =
-        let l = ltb-false x 10 e in
-        let q : x / 10 * 10 + x % 10 ≡ x = omega arith in
-        rw (
-          decimal-more x l,
-          append-assoc,
-          ih l,
-          length-append,
-          one-digit most (x / 10) (length (decimal (x / 10))) (x % 10) rest (omega arith) (omega arith) (λ h. omega arith),
-          q,
-        )
-
-decimal-back : (most x : ℕ) (rest : List ℕ) → x ≤ most → decimalAt most 0 0 (decimal x ++ (10 ∷ rest)) ≡ Good x (length (decimal x) + 1)
-unfolding decimalAt
-decimal-back most x rest h =
-    digits-back most (suc x) x (10 ∷ rest) (omega arith) h ∙ rw (ne-eqb (length (decimal x)) 0 (λ e. omega (arith, decimal-some x)))
-
--- the digits read so far, j of them, which make v
-abbrev sofar : ℕ → ℕ → List ℕ
-sofar zero v = []
-sofar (suc j) v = decimal v
-
-sofar-some : (v j : ℕ) → (j ≡ 0 → ⊥) → sofar j v ≡ decimal v
-sofar-some v zero h = absurd (h refl)
-sofar-some v (suc j) h = refl
-
-sofar-more : (v j b : ℕ) → (j ≡ 0 → v ≡ 0) → (ltb 0 j && eqb v 0) ≡ false → 48 ≤ b → b ≤ 57
-    → sofar (j + 1) (v * 10 + (b - 48)) ≡ sofar j v ++ (b ∷ [])
-sofar-more v zero b h l lo hi =
-    decimal-small (v * 10 + (b - 48)) (omega (arith, h refl)) ∙ ap (λ (x : ℕ). x ∷ []) (omega (arith, h refl))
-sofar-more v (suc j) b h l lo hi =
-    let n = eqb-false v 0 (rw (lt-ltb 0 (suc j) (omega arith)) at l) in
-    let e : 48 + (b - 48) ≡ b = omega arith in
-    rw (add-one) (decimal-step v (b - 48) (omega (arith, n)) (omega arith) ∙ rw e)
-
-decimal-from : (most : ℕ) (s : List ℕ) (v j x n : ℕ) → v ≤ most → (j ≡ 0 → v ≡ 0) → length (sofar j v) ≡ j
-    → decimalAt most v j s ≡ Good x n
-    → (r : List ℕ) × (sofar j v ++ s ≡ decimal x ++ (10 ∷ r)) × (n ≡ length (decimal x) + 1) × (x ≤ most)
-unfolding decimalAt
-decimal-from most [] v j x n hm hz hl e = let z : _≡_ {A = ℕ} 0 1 = cc in absurd (omega arith)
-decimal-from most (b ∷ s) v j x n hm hz hl e =
-    go (eqb b 10) (eqb j 0) (ltb b 48) (ltb 57 b) (ltb most (v * 10 + (b - 48))) (ltb 0 j && eqb v 0) refl refl refl refl refl refl e
-    (decimal-from most s (v * 10 + (b - 48)) (j + 1) x n)
-  where
-    goal : Type 0
-    goal = (r : List ℕ) × (sofar j v ++ (b ∷ s) ≡ decimal x ++ (10 ∷ r)) × (n ≡ length (decimal x) + 1) × (x ≤ most)
-
-    go : (p o q r t u : Bool) → eqb b 10 ≡ p → eqb j 0 ≡ o → ltb b 48 ≡ q → ltb 57 b ≡ r → ltb most (v * 10 + (b - 48)) ≡ t
-        → (ltb 0 j && eqb v 0) ≡ u
-        → cond p (cond o Bad (Good v (j + 1)))
-        (cond q Bad (cond r Bad (cond t Bad (cond u Bad (decimalAt most (v * 10 + (b - 48)) (j + 1) s))))) ≡ Good x n
-        → (v * 10 + (b - 48) ≤ most → (j + 1 ≡ 0 → v * 10 + (b - 48) ≡ 0) → length (sofar (j + 1) (v * 10 + (b - 48))) ≡ j + 1
-        → decimalAt most (v * 10 + (b - 48)) (j + 1) s ≡ Good x n
-        → (r : List ℕ) × (sofar (j + 1) (v * 10 + (b - 48)) ++ s ≡ decimal x ++ (10 ∷ r)) × (n ≡ length (decimal x) + 1) × (x ≤ most))
-        → goal
-    go true true q r t u hp ho hq hr ht hu e ih = let z : _≡_ {A = ℕ} 0 1 = cc in absurd (omega arith)
-    go true false q r t u hp ho hq hr ht hu e ih =
-        let d = sofar-some v j (eqb-false j 0 ho) in
-        let y : v ≡ x = cc in
-        let w : j + 1 ≡ n = cc in
-        let k : length (decimal x) ≡ j = cc in
-        (s, rw (d, y, eqb-true b 10 hp), omega arith, omega arith)
-    go false o true r t u hp ho hq hr ht hu e ih = let z : _≡_ {A = ℕ} 0 1 = cc in absurd (omega arith)
-    go false o false true t u hp ho hq hr ht hu e ih = let z : _≡_ {A = ℕ} 0 1 = cc in absurd (omega arith)
-    go false o false false true u hp ho hq hr ht hu e ih = let z : _≡_ {A = ℕ} 0 1 = cc in absurd (omega arith)
-    go false o false false false true hp ho hq hr ht hu e ih = let z : _≡_ {A = ℕ} 0 1 = cc in absurd (omega arith)
-    go false o false false false false hp ho hq hr ht hu e ih =
-        let m = sofar-more v j b hz hu (ltb-false b 48 hq) (ltb-false 57 b hr) in
-        let k : length (sofar (j + 1) (v * 10 + (b - 48))) ≡ j + 1 = ap length m ∙ length-append (sofar j v) (b ∷ []) ∙ rw hl in
-        let i = ih (ltb-false most (v * 10 + (b - 48)) ht) (λ z. absurd (omega arith)) k e in
-        (i .0, sym (append-assoc (sofar j v) (b ∷ []) s) ∙ ap (λ (l : List ℕ). l ++ s) (sym m) ∙ i .1, i .2, i .3)
-
-pub decimal-only : (most : ℕ) (s : List ℕ) (x n : ℕ) → decimalAt most 0 0 s ≡ Good x n
-    → (r : List ℕ) × (s ≡ decimal x ++ (10 ∷ r)) × (n ≡ length (decimal x) + 1) × (x ≤ most)
-decimal-only most s x n = decimal-from most s 0 0 x n (omega arith) (λ h. refl) refl
-
--- ---- lines
--- the reader `read` accepts a text just where it begins with the line of a value that is fine, and answers that value and the line's length
-pub record LineRule (read : List ℕ → Line) (fine : ℕ → Type 0) (lineOf : ℕ → List ℕ) : Type 0 where
-  pub back : (v : ℕ) → fine v → (rest : List ℕ) → read (lineOf v ++ rest) ≡ Good v (length (lineOf v))
-  pub only : (s : List ℕ) (v n : ℕ) → read s ≡ Good v n → fine v × (n ≡ length (lineOf v)) × (s ≡ lineOf v ++ drop n s)
-
--- what follows the line is what is left at its length
-cut : (l r s : List ℕ) (n : ℕ) → s ≡ l ++ r → n ≡ length l → s ≡ l ++ drop n s
-cut l r s n e h = e ∙ ap (λ (t : List ℕ). l ++ t) (sym (rw (e, h) (drop-append-seam l r)))
-
+-- ---- the format line
 format-back : (v : ℕ) → v ≡ 0 → (rest : List ℕ) → formatAt (formatLine ++ rest) ≡ Good v (length formatLine)
 unfolding formatAt formatLine
 format-back v e rest = rw (begins-back formatLine rest, e)
@@ -270,52 +38,7 @@ format-only s v n e = go (begins s formatLine) refl e
 pub format-rule : LineRule formatAt (λ v. v ≡ 0) (λ v. formatLine)
 format-rule = record { back = format-back; only = format-only }
 
-module _ (key : List ℕ) (least most : ℕ) where
-  decimal-line-back : (v : ℕ) → (least ≤ v) × (v ≤ most) → (rest : List ℕ)
-      → decimalLineAt key least most (line key (decimal v) ++ rest) ≡ Good v (length (line key (decimal v)))
-  unfolding decimalLineAt
-  decimal-line-back v h rest =
-      rw (
-        append-assoc key (decimal v ++ (10 ∷ [])) rest,
-        begins-back key ((decimal v ++ (10 ∷ [])) ++ rest),
-        drop-append-seam key ((decimal v ++ (10 ∷ [])) ++ rest),
-        append-assoc (decimal v) (10 ∷ []) rest,
-        decimal-back most v rest (h .1),
-        le-ltb v least (h .0),
-      )
-      (ap (λ (n : ℕ). Good v n) (sym (simp length-append)))
-
-  decimal-line-only : (s : List ℕ) (v n : ℕ) → decimalLineAt key least most s ≡ Good v n
-      → ((least ≤ v) × (v ≤ most)) × (n ≡ length (line key (decimal v))) × (s ≡ line key (decimal v) ++ drop n s)
-  unfolding decimalLineAt
-  decimal-line-only s v n e = go (begins s key) (decimalAt most 0 0 (drop (length key) s)) refl refl e
-    where
-      last : (x m : ℕ) → begins s key ≡ true → decimalAt most 0 0 (drop (length key) s) ≡ Good x m → (p : Bool) → ltb x least ≡ p
-          → cond p Bad (Good x (length key + m)) ≡ Good v n
-          → ((least ≤ v) × (v ≤ most)) × (n ≡ length (line key (decimal v))) × (s ≡ line key (decimal v) ++ drop n s)
-      last x m hb hd true hp e = let z : _≡_ {A = ℕ} 0 1 = cc in absurd (omega arith)
-      last x m hb hd false hp e =
-          let d = decimal-only most (drop (length key) s) x m hd in
-          let y : x ≡ v = cc in
-          let z : length key + m ≡ n = cc in
-          let k : length (line key (decimal x)) ≡ length key + (length (decimal x) + 1) = simp length-append in
-          let f : s ≡ line key (decimal x) ++ d .0 =
-          begins-only s key hb
-          ∙ ap (λ (l : List ℕ). key ++ l) (d .1 ∙ sym (append-assoc (decimal x) (10 ∷ []) (d .0)))
-          ∙ sym (append-assoc key (decimal x ++ (10 ∷ [])) (d .0)) in
-          let w : n ≡ length (line key (decimal x)) = omega (arith, d .2) in
-          ((omega (arith, ltb-false x least hp), omega (arith, d .3)), rw (← y) w, rw (← y) (cut (line key (decimal x)) (d .0) s n f w))
-
-      go : (p : Bool) (l : Line) → begins s key ≡ p → decimalAt most 0 0 (drop (length key) s) ≡ l
-          → cond p (onLine l Bad (λ x m. cond (ltb x least) Bad (Good x (length key + m)))) Bad ≡ Good v n
-          → ((least ≤ v) × (v ≤ most)) × (n ≡ length (line key (decimal v))) × (s ≡ line key (decimal v) ++ drop n s)
-      go true (Good x m) hb hd e = last x m hb hd (ltb x least) refl e
-      go true Bad hb hd e = let z : _≡_ {A = ℕ} 0 1 = cc in absurd (omega arith)
-      go false l hb hd e = let z : _≡_ {A = ℕ} 0 1 = cc in absurd (omega arith)
-
-  pub decimal-rule : LineRule (decimalLineAt key least most) (λ v. (least ≤ v) × (v ≤ most)) (λ v. line key (decimal v))
-  decimal-rule = record { back = decimal-line-back; only = decimal-line-only }
-
+-- ---- a word line
 pub word-length : (w : ℕ) → length (wordLine w) ≡ 18
 unfolding wordLine
 word-length w = simp (length-append, hex-length)

@@ -4,13 +4,13 @@ use mathlib.Core.Path.{_≡_, _∙_}
 use mathlib.Core.List.{List}
 use Prim.Native.Nat.{ℕ}
 use lib.ListN.{getD}
-use Rattle.laws.specs.Lists.{tab}
+use Rattle.laws.specs.Words.{tab}
 use Rattle.search.specs.declared.Closed.{Closed}
 use Rattle.search.specs.declared.Entry.{Entry}
 use Rattle.search.specs.Tables.{tables}
 use Rattle.solve.specs.declared.Pair.{Pair}
-use Rattle.solve.specs.Flat.{pairIn}
-use Rattle.resolve.specs.Flat.{midStartWith}
+use Rattle.solve.specs.Inner.Flat.{pairIn}
+use Rattle.resolve.specs.Inner.Flat.{midStartWith}
 use Rattle.parity.proofs.mid_starts.Statement.{statement}
 use Rattle.parity.proofs.mid_starts.Tie as tie
 

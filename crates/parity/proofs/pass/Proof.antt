@@ -1,7 +1,7 @@
 -- `parity::pass` meets its contract: what its calls make together is the pass. Assumes nothing.
 use borrow.Author.Needs.{needs}
 use Prim.Native.Nat.{_%_}
-use Rattle.solve.specs.Flat.{solveIn}
+use Rattle.solve.specs.Inner.Flat.{solveIn}
 use Rattle.parity.proofs.Passed.{passed}
 use Rattle.parity.proofs.pass.Statement.{statement}
 use Rattle.parity.proofs.pass.Tie as tie

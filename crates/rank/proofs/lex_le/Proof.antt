@@ -4,7 +4,8 @@ use Prim.Native.Nat.{_+_, _-_, _≤_, compare}
 use native.Mathlib.Omega.{arith}
 use borrow.Author.Needs.{needs}
 use lib.ListN.{length, getD, drop, drop-of-length-le}
-use Rattle.laws.specs.Order.{pick3, lexLe, pick3-less, pick3-same, pick3-more}
+use Rattle.laws.specs.Words.{pick3, lexLe}
+use Rattle.laws.specs.Laws.Order.{pick3-less, pick3-same, pick3-more}
 use Rattle.rank.proofs.Steps.{lex-step}
 use Rattle.rank.proofs.lex_le.Statement.{statement}
 use Rattle.rank.proofs.lex_le.Tie as tie

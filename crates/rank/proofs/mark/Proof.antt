@@ -9,7 +9,8 @@ use lib.IntN.{ℤ}
 use mir.Syntax.{w32}
 use mir.Val.{toZ, ofZ}
 use mir.Facts.{toZ-ofZ}
-use Rattle.laws.specs.Whole.{modZ, mod4-lt}
+use Rattle.laws.specs.Words.{modZ}
+use Rattle.laws.specs.Laws.Whole.{mod4-lt}
 use Rattle.rank.specs.Coord.{rankOf}
 use Rattle.rank.specs.Answers.{reach, noRank, rankedOf, markOf}
 use Rattle.rank.specs.Laws.Lookup.{mark-lt}

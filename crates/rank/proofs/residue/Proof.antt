@@ -9,7 +9,8 @@ use lib.Signed.{nonNeg}
 use mir.Syntax.{w32}
 use mir.Val.{Fits, SFits, toZ, ofZ}
 use mir.Facts.{toZ-pos}
-use Rattle.laws.specs.Whole.{modZ, mod4-lt}
+use Rattle.laws.specs.Words.{modZ}
+use Rattle.laws.specs.Laws.Whole.{mod4-lt}
 use Rattle.rank.proofs.residue.Statement.{statement}
 use Rattle.rank.proofs.residue.Tie as tie
 

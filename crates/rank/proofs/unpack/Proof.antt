@@ -6,7 +6,7 @@ use borrow.Author.Needs.{needs}
 use lib.Bits.{and-mask}
 use lib.ListN.{length, getD, length-set}
 use lib.Seq.{ext-getD}
-use Rattle.laws.specs.Lists.{filled-more}
+use Rattle.laws.specs.Laws.Lists.{filled-more}
 use Rattle.rank.specs.Vector as vector
 use Rattle.rank.specs.Laws.Vector.{unpack-at}
 use Rattle.rank.proofs.unpack.Statement.{statement}

@@ -5,7 +5,8 @@ use mathlib.Core.Bool.{Bool, true, false}
 use mathlib.Core.List.{List, [], _∷_}
 use Prim.Native.Nat.{ℕ, _<_, compare, Ordering, Ordering·lt, Ordering·eq, Ordering·gt}
 use native.Mathlib.Omega.{arith}
-use Rattle.laws.specs.Order.{Ordered, compared, pick3, lexLe}
+use Rattle.laws.specs.Words.{pick3, lexLe}
+use Rattle.laws.specs.Laws.Order.{Ordered, compared}
 use Rattle.rank.specs.Vector.{cost, within}
 
 -- a Bool that says whether P holds

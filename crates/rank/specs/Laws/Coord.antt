@@ -6,8 +6,9 @@ use native.Mathlib.Omega.{arith}
 use lib.Pow.{shr-shr}
 use lib.Dec.{T, ltb, eqb, eqb→eq, lt→ltb}
 use lib.IntN.{ℤ, pos, negsuc}
-use Rattle.laws.specs.Tests.{and-left, and-right, split4, implies, modus, upto, below, below2}
-use Rattle.laws.specs.Whole.{modZ, mod4-lt}
+use Rattle.laws.specs.Laws.Tests.{and-left, and-right, split4, implies, modus, upto, below, below2}
+use Rattle.laws.specs.Words.{modZ}
+use Rattle.laws.specs.Laws.Whole.{mod4-lt}
 use Rattle.rank.specs.Coord.{parityOf, bitOf, kOf, rankOf, valOf}
 use Rattle.rank.specs.Laws.RankOrder.{rank-is}
 

@@ -7,7 +7,7 @@ use native.Mathlib.Omega.{arith}
 use borrow.Author.Tests.{lt-ltb, le-ltb, eq-eqb, ltb-true, eqb-true}
 use lib.Dec.{T, ltb, eqb}
 use lib.IntN.{ℤ}
-use Rattle.laws.specs.Whole.{modZ}
+use Rattle.laws.specs.Words.{modZ}
 use Rattle.rank.specs.Coord.{rankOf, valOf}
 use Rattle.rank.specs.Laws.Coord.{member, member-of, val-rank}
 use Rattle.rank.specs.Vector.{ranksBelow, sq}

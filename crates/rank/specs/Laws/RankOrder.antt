@@ -8,8 +8,9 @@ use lib.Pow.{field, mod-mod-pow}
 use lib.Dec.{T, eqb, eqb→eq}
 use lib.IntN.{ℤ, pos, negsuc}
 use lib.ListN.{getD}
-use Rattle.laws.specs.Tests.{upto, below, below2}
-use Rattle.laws.specs.Whole.{modZ, mod4-lt}
+use Rattle.laws.specs.Laws.Tests.{upto, below, below2}
+use Rattle.laws.specs.Words.{modZ}
+use Rattle.laws.specs.Laws.Whole.{mod4-lt}
 use Rattle.rank.specs.Coord.{outward, countTo, rankOf}
 
 -- half the magnitude, whichever the residue

@@ -10,7 +10,7 @@ use lib.Dec.{ltb}
 use lib.IntN.{ℤ, pos}
 use Rattle.rank.specs.Coord.{valOf}
 use Rattle.rank.specs.Vector.{ranksBelow}
-use Rattle.rank.specs.Answers.{valuedOf, rankedOf, numberOf, lookupNumber, classedOf, costedOf, heldOf}
+use Rattle.rank.specs.Answers.{valuedOf, rankedOf, rankedNumber, lookupNumber, classedOf, costedOf, heldOf}
 
 -- ---- refused
 pub val-refused : (o rho : ℕ) → (ltb o 4 && ltb rho 8) ≡ false
@@ -18,7 +18,7 @@ pub val-refused : (o rho : ℕ) → (ltb o 4 && ltb rho 8) ≡ false
 unfolding valuedOf
 val-refused o rho e = rw e
 
-pub rank-refused : (o : ℕ) (y : ℤ) → ltb o 4 ≡ false → (numberOf (rankedOf o y) ≡ 7) × (lookupNumber o ≡ 7)
+pub rank-refused : (o : ℕ) (y : ℤ) → ltb o 4 ≡ false → (rankedNumber (rankedOf o y) ≡ 7) × (lookupNumber o ≡ 7)
 unfolding rankedOf lookupNumber
 rank-refused o y e = (rw e, rw e)
 

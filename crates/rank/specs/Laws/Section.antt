@@ -9,9 +9,10 @@ use lib.Pow.{mod-pow-add}
 use lib.Dec.{T, eqb, eqb→eq}
 use lib.IntN.{ℤ}
 use lib.ListN.{length}
-use Rattle.laws.specs.Tests.{and-left, and-right, and-in, eq→eqb}
-use Rattle.laws.specs.Whole.{modZ, divZ, mod2-lt, parity-add}
-use Rattle.laws.specs.Bits.{weight}
+use Rattle.laws.specs.Laws.Tests.{and-left, and-right, and-in, eq→eqb}
+use Rattle.laws.specs.Words.{modZ, divZ}
+use Rattle.laws.specs.Laws.Whole.{mod2-lt, parity-add}
+use Rattle.laws.specs.Words.{weight}
 use Rattle.rank.specs.Coord.{parityOf, bitOf, kOf, rankOf, valOf}
 use Rattle.rank.specs.Laws.Coord.{Member, member, val-rank, k-parity, residue}
 use Rattle.rank.specs.Vector.{ranksBelow, kZero, class}

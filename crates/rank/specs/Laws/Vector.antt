@@ -9,10 +9,12 @@ use native.Mathlib.Omega.{arith}
 use lib.Pow.{shr-shr, mod-pow-add}
 use lib.Dec.{T, ltb, ltb→lt, lt→ltb}
 use lib.ListN.{length, getD}
-use Rattle.laws.specs.Tests.{and-left, and-right, and-in, is-true}
-use Rattle.laws.specs.Order.{pick3, lexLe, lexLt, pick3-out, pick3-lt, pick3-eq, pick3-same, pick3-trans}
+use Rattle.laws.specs.Laws.Tests.{and-left, and-right, and-in, is-true}
+use Rattle.laws.specs.Words.{pick3, lexLe, lexLt}
+use Rattle.laws.specs.Laws.Order.{pick3-out, pick3-lt, pick3-eq, pick3-same, pick3-trans}
 use Rattle.rank.specs.Vector.{ranksBelow, sq, cost, class, pack, unpack, before, within, boundCut, inClass, inMiddle, middleCost, middleCut}
-use Rattle.rank.specs.Answers.{outOfRange, classedOf, costedOf, heldOf, packedOf}
+use Rattle.refusal.specs.Refusal.{outOfRange}
+use Rattle.rank.specs.Answers.{classedOf, costedOf, heldOf, packedOf}
 use Rattle.rank.specs.declared.Classed.{Classed}
 
 -- ---- ranks below b

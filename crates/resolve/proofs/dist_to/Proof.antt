@@ -1,58 +1,55 @@
 -- `resolve::dist_to` meets its contract. The invariant: the sum is that of the first j coordinates. Assumes nothing.
-use Prim.Native.Nat.{ℕ, suc, _≤_, _+_, _-_, _*_}
-use mathlib.Core.Path.{_≡_, _∙_, ap}
+use mathlib.Core.Path.{_≡_, ap₂}
 use mathlib.Core.List.{List}
-use mir.Syntax.{w32}
-use mir.ValLaws.{toZ-ofZ}
+use Prim.Native.Nat.{ℕ, suc, _≤_, _+_, _-_, _*_}
 use native.Mathlib.Numerals.{add-one}
 use native.Mathlib.Omega.{arith}
 use borrow.Author.Needs.{needs}
 use lib.ListN.{getD}
-use lib.IntN.{ℤ, pos}
-use lib.Ieee.{Float, binary64, add, nan, ofBits}
-use Rattle.search.specs.Record.{sqTo}
-use Rattle.search.specs.Entries.{distTo}
+use lib.Ieee.{Float, nan, binary64, add, ofBits}
+use Rattle.resolve.specs.Inner.Flat.{squarePlace, sumTo}
 use Rattle.resolve.proofs.dist_to.Statement.{statement}
 use Rattle.resolve.proofs.dist_to.Tie as tie
 
-more : (f : ℕ → ℤ) (t : List Float) (n : ℕ) {s q : Float} → s ≡ distTo f t n → q ≡ sqTo (f n) (getD t n nan)
-    → add binary64 s q ≡ distTo f t (suc n)
-unfolding distTo
-more f t n hs hq = rw (hs, hq)
+-- one square more
+more : (qs : List Float) (c key n : ℕ) {s : Float} {i : ℕ} → s ≡ sumTo qs c key n → i ≡ squarePlace c key n
+    → add binary64 s (getD qs i nan) ≡ sumTo qs c key (suc n)
+unfolding sumTo
+more qs c key n hs hi = rw (hs, hi)
 
 abbrev Inv-loop : tie.InvT-loop
-Inv-loop points i t s₀ j₀ s j = (j ≤ 8) × (s ≡ distTo (λ (k : ℕ). getD points (8 * i + k) (pos 0)) t j)
+Inv-loop squares c key s₀ j₀ s j = (j ≤ 8) × (s ≡ sumTo squares c key j)
 
 abbrev μ-loop : tie.MeasureT-loop
-μ-loop points i t s₀ j₀ s j = 8 - j
+μ-loop squares c key s₀ j₀ s j = 8 - j
 
 loop-holds : tie.Need-loop-holds Inv-loop μ-loop
-unfolding distTo ofBits
+unfolding sumTo ofBits
 loop-holds c = search needs
 
-mul-sq : tie.Need-mul-sq Inv-loop μ-loop
-mul-sq c = search needs
+bit-requires : tie.Need-bit-requires Inv-loop μ-loop
+bit-requires c κs = search needs
 
-add-sq : tie.Need-add-sq Inv-loop μ-loop
-add-sq c = search needs
+low-rank-requires : tie.Need-low-rank-requires Inv-loop μ-loop
+low-rank-requires c κs = search needs
 
-mul-sq-2 : tie.Need-mul-sq-2 Inv-loop μ-loop
-mul-sq-2 c = search needs
+mul-s : tie.Need-mul-s Inv-loop μ-loop
+mul-s c = search needs
 
-element-copy-out-sq : tie.Need-element-copy-out-sq Inv-loop μ-loop
-element-copy-out-sq c = search needs
+mul-s-2 : tie.Need-mul-s-2 Inv-loop μ-loop
+mul-s-2 c = search needs
 
-int-to-float-sq : tie.Need-int-to-float-sq Inv-loop μ-loop
-int-to-float-sq c = search needs
+add-s : tie.Need-add-s Inv-loop μ-loop
+add-s c = search needs
 
-mul-sq-3 : tie.Need-mul-sq-3 Inv-loop μ-loop
-mul-sq-3 c = search needs
+add-s-2 : tie.Need-add-s-2 Inv-loop μ-loop
+add-s-2 c = search needs
 
-array-read-sq : tie.Need-array-read-sq Inv-loop μ-loop
-array-read-sq c = search needs
+mul-s-3 : tie.Need-mul-s-3 Inv-loop μ-loop
+mul-s-3 c = search needs
 
-sq-requires : tie.Need-sq-requires Inv-loop μ-loop
-sq-requires c κs = search needs
+element-copy-out-s : tie.Need-element-copy-out-s Inv-loop μ-loop
+element-copy-out-s c = search needs
 
 add-j : tie.Need-add-j Inv-loop μ-loop
 add-j c = search needs
@@ -62,14 +59,14 @@ loop-less c = search needs
 
 loop-again : tie.Need-loop-again Inv-loop μ-loop
 loop-again c =
-    let s = c .before .before .before .before .before .args in
-    let n = c .before .before .before .before .loop .j in
-    let back = ap (λ (z : ℤ). sqTo z (getD (s .t3) n nan))
-    (toZ-ofZ w32 (getD (s .points .now) (8 * s .i + n) (pos 0)) (record { sfits = c .before .before .sq-arg .given })) in (
+    let r = c .before in
+    let b = r .before in
+    let l = b .before .before .loop in
+    let a = b .before .before .before .args in (
       omega arith,
       rw add-one
-          (more (λ (k : ℕ). getD (s .points .now) (8 * s .i + k) (pos 0)) (s .t3) n (c .before .before .before .before .loop .inv .1)
-          (c .sq .ensures ∙ back)),
+          (more (a .squares .now) (a .c) (a .key) (l .j) (l .inv .1)
+          (ap₂ (λ (x y : ℕ). 8 * l .j + 4 * x + y) (b .bit .ensures .0) (r .low-rank .ensures .0))),
     )
 
 returns : tie.Need-returns Inv-loop μ-loop
@@ -78,5 +75,5 @@ returns c = let e : c .before .loop .j ≡ 8 = omega arith in rw e at (c .before
 pub dist-to-spec : {M : Type 1} → statement M
 dist-to-spec =
     tie.close
-    (tie.spec Inv-loop μ-loop loop-holds mul-sq add-sq mul-sq-2 element-copy-out-sq int-to-float-sq mul-sq-3 array-read-sq sq-requires add-j
+    (tie.spec Inv-loop μ-loop loop-holds bit-requires low-rank-requires mul-s mul-s-2 add-s add-s-2 mul-s-3 element-copy-out-s add-j
     loop-less loop-again returns)

@@ -1,6 +1,6 @@
 -- `resolve::end_resolve` meets its contract. Assumes nothing.
 use borrow.Author.Needs.{needs}
-use Rattle.solve.specs.Flat.{solveIn}
+use Rattle.solve.specs.Inner.Flat.{solveIn}
 use Rattle.resolve.proofs.Answers.{ended}
 use Rattle.resolve.proofs.end_resolve.Statement.{statement}
 use Rattle.resolve.proofs.end_resolve.Tie as tie

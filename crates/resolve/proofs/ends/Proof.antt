@@ -2,9 +2,9 @@
 use Prim.Native.Nat.{_-_}
 use native.Mathlib.Omega.{arith}
 use borrow.Author.Needs.{needs}
-use Rattle.laws.specs.Filled.{Filled, fill-none, fill-more, fill-all}
+use Rattle.laws.specs.Laws.Filled.{Filled, fill-none, fill-more, fill-all}
 use Rattle.search.specs.Join.{noEntry}
-use Rattle.resolve.specs.Flat.{startWith}
+use Rattle.resolve.specs.Inner.Flat.{startWith}
 use Rattle.resolve.proofs.Answers.{of-bases}
 use Rattle.resolve.proofs.ends.Statement.{statement}
 use Rattle.resolve.proofs.ends.Tie as tie
@@ -57,17 +57,20 @@ of-parity-requires-2 c κs = search needs
 mul-end-start : tie.Need-mul-end-start Inv-loop μ-loop
 mul-end-start c = search needs
 
-element-copy-out-end-start : tie.Need-element-copy-out-end-start Inv-loop μ-loop
-element-copy-out-end-start c = search needs
+index-1-end-start : tie.Need-index-1-end-start Inv-loop μ-loop
+index-1-end-start c = search needs
+
+index-2-end-start : tie.Need-index-2-end-start Inv-loop μ-loop
+index-2-end-start c = search needs
 
 mul-end-start-2 : tie.Need-mul-end-start-2 Inv-loop μ-loop
 mul-end-start-2 c = search needs
 
-add-end-start : tie.Need-add-end-start Inv-loop μ-loop
-add-end-start c = search needs
+index-1-end-start-2 : tie.Need-index-1-end-start-2 Inv-loop μ-loop
+index-1-end-start-2 c = search needs
 
-element-copy-out-end-start-2 : tie.Need-element-copy-out-end-start-2 Inv-loop μ-loop
-element-copy-out-end-start-2 c = search needs
+index-2-end-start-2 : tie.Need-index-2-end-start-2 Inv-loop μ-loop
+index-2-end-start-2 c = search needs
 
 end-start-requires : tie.Need-end-start-requires Inv-loop μ-loop
 end-start-requires c κs = search needs
@@ -97,5 +100,5 @@ pub ends-spec : {M : Type 1} → statement M
 ends-spec =
     tie.close
     (tie.spec Inv-loop μ-loop infeasible-requires loop-holds mul-f array-copy-out-f mul-q0 mul-q0-2 array-copy-out-q0 mul-q1 add-q1 mul-q1-2
-    array-copy-out-q1 of-parity-requires of-parity-requires-2 mul-end-start element-copy-out-end-start mul-end-start-2 add-end-start
-    element-copy-out-end-start-2 end-start-requires mul-out array-set-from-out add-i loop-less loop-again returns)
+    array-copy-out-q1 of-parity-requires of-parity-requires-2 mul-end-start index-1-end-start
+    index-2-end-start mul-end-start-2 index-1-end-start-2 index-2-end-start-2 end-start-requires mul-out array-set-from-out add-i loop-less loop-again returns)

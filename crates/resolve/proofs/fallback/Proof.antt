@@ -3,9 +3,6 @@ use borrow.Author.Needs.{needs}
 use Rattle.resolve.proofs.fallback.Statement.{statement}
 use Rattle.resolve.proofs.fallback.Tie as tie
 
-dist-to-requires : tie.Need-dist-to-requires
-dist-to-requires c κs = search needs
-
 element-copy-out-byte : tie.Need-element-copy-out-byte
 element-copy-out-byte c = search needs
 
@@ -15,8 +12,11 @@ mul-key c = search needs
 element-copy-out-key : tie.Need-element-copy-out-key
 element-copy-out-key c = search needs
 
+dist-to-requires : tie.Need-dist-to-requires
+dist-to-requires c κs = search needs
+
 returns : tie.Need-returns
-returns c = rw (c .before .before .dist-to .ensures)
+returns c = rw (c .dist-to .ensures)
 
 pub fallback-spec : {M : Type 1} → statement M
-fallback-spec = tie.close (tie.spec dist-to-requires element-copy-out-byte mul-key element-copy-out-key returns)
+fallback-spec = tie.close (tie.spec element-copy-out-byte mul-key element-copy-out-key dist-to-requires returns)

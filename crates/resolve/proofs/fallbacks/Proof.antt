@@ -12,8 +12,11 @@ fallback-bytes-requires c κs = search needs
 fallback-keys-requires : tie.Need-fallback-keys-requires
 fallback-keys-requires c κs = search needs
 
-fallback-points-requires : tie.Need-fallback-points-requires
-fallback-points-requires c κs = search needs
+members-requires : tie.Need-members-requires
+members-requires c κs = search needs
+
+squares-requires : tie.Need-squares-requires
+squares-requires c κs = search needs
 
 mul-fallbacks-from : tie.Need-mul-fallbacks-from
 mul-fallbacks-from c = search needs
@@ -32,15 +35,16 @@ fallbacks-from-requires c κs = search needs
 
 returns : tie.Need-returns
 returns c =
-    let points = c .before .before .before .before in
-    let keys = points .before in
+    let squares = c .before .before .before .before in
+    let members = squares .before .before in
+    let keys = members .before in
     let bytes = keys .before in
     let s = bytes .before .args in
     all-fallbacks (s .t) (s .kind % 2) (s .p % 2) (omega arith) (omega arith) (bytes .fallback-bytes .ensures) (keys .fallback-keys .ensures)
-    (points .fallback-points .ensures) (c .fallbacks-from .ensures)
+    (members .members .ensures) (squares .squares .ensures) (c .fallbacks-from .ensures)
 
 pub fallbacks-spec : {M : Type 1} → statement M
 fallbacks-spec =
     tie.close
-    (tie.spec fallback-bytes-requires fallback-keys-requires fallback-points-requires mul-fallbacks-from add-fallbacks-from mul-fallbacks-from-2
+    (tie.spec fallback-bytes-requires fallback-keys-requires members-requires squares-requires mul-fallbacks-from add-fallbacks-from mul-fallbacks-from-2
     cast-fallbacks-from fallbacks-from-requires returns)

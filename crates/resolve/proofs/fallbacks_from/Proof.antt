@@ -2,17 +2,17 @@
 use Prim.Native.Nat.{ℕ, _+_, _-_}
 use native.Mathlib.Omega.{arith}
 use borrow.Author.Needs.{needs}
-use Rattle.laws.specs.Filled.{Filled, fill-none, fill-more, fill-all}
+use Rattle.laws.specs.Laws.Filled.{Filled, fill-none, fill-more, fill-all}
 use Rattle.search.specs.Join.{noEntry}
-use Rattle.resolve.specs.Flat.{fallbackIn}
+use Rattle.resolve.specs.Inner.Flat.{fallbackIn}
 use Rattle.resolve.proofs.fallbacks_from.Statement.{statement}
 use Rattle.resolve.proofs.fallbacks_from.Tie as tie
 
 abbrev Inv-loop : tie.InvT-loop
-Inv-loop bytes keys points from t out₀ i₀ out i = Filled noEntry (λ (k : ℕ). fallbackIn bytes keys points t (from + k)) 128 i out
+Inv-loop bytes keys squares from out₀ i₀ out i = Filled noEntry (λ (k : ℕ). fallbackIn bytes keys squares (from + k)) 128 i out
 
 abbrev μ-loop : tie.MeasureT-loop
-μ-loop bytes keys points from t out₀ i₀ out i = 128 - i
+μ-loop bytes keys squares from out₀ i₀ out i = 128 - i
 
 infeasible-requires : tie.Need-infeasible-requires Inv-loop μ-loop
 infeasible-requires c κs = search needs

@@ -1,7 +1,7 @@
 -- `resolve::mid_resolve` meets its contract, by the cases of the first answer and of the number of shrinks. Assumes nothing.
 use borrow.Author.Needs.{needs}
 use native.Mathlib.Omega.{arith}
-use Rattle.solve.specs.Flat.{solveIn}
+use Rattle.solve.specs.Inner.Flat.{solveIn}
 use Rattle.search.specs.Tables.{tables}
 use Rattle.resolve.proofs.Answers.{at-once, again, none-left, solve-eight}
 use Rattle.resolve.proofs.mid_resolve.Statement.{statement}

@@ -2,9 +2,9 @@
 use Prim.Native.Nat.{_-_}
 use native.Mathlib.Omega.{arith}
 use borrow.Author.Needs.{needs}
-use Rattle.laws.specs.Filled.{Filled, fill-none, fill-more, fill-all}
+use Rattle.laws.specs.Laws.Filled.{Filled, fill-none, fill-more, fill-all}
 use Rattle.search.specs.Join.{noEntry}
-use Rattle.resolve.specs.Flat.{midStartWith}
+use Rattle.resolve.specs.Inner.Flat.{midStartWith}
 use Rattle.resolve.proofs.mids.Statement.{statement}
 use Rattle.resolve.proofs.mids.Tie as tie
 

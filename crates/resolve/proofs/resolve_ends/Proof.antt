@@ -2,11 +2,11 @@
 use Prim.Native.Nat.{_-_}
 use native.Mathlib.Omega.{arith}
 use borrow.Author.Needs.{needs}
-use Rattle.laws.specs.Filled.{Filled, fill-none, fill-more, fill-all}
+use Rattle.laws.specs.Laws.Filled.{Filled, fill-none, fill-more, fill-all}
 use Rattle.search.specs.Tables.{tables}
 use Rattle.search.specs.Join.{noEntry}
-use Rattle.solve.specs.Flat.{solveIn}
-use Rattle.resolve.specs.Flat.{endWith, closedWith}
+use Rattle.solve.specs.Inner.Flat.{solveIn}
+use Rattle.resolve.specs.Inner.Flat.{endWith, closedWith}
 use Rattle.resolve.proofs.resolve_ends.Statement.{statement}
 use Rattle.resolve.proofs.resolve_ends.Tie as tie
 
@@ -38,17 +38,20 @@ array-copy-out-x c = search needs
 mul-c0 : tie.Need-mul-c0 Inv-loop μ-loop
 mul-c0 c = search needs
 
-element-copy-out-c0 : tie.Need-element-copy-out-c0 Inv-loop μ-loop
-element-copy-out-c0 c = search needs
+index-1-c0 : tie.Need-index-1-c0 Inv-loop μ-loop
+index-1-c0 c = search needs
+
+index-2-c0 : tie.Need-index-2-c0 Inv-loop μ-loop
+index-2-c0 c = search needs
 
 mul-c1 : tie.Need-mul-c1 Inv-loop μ-loop
 mul-c1 c = search needs
 
-add-c1 : tie.Need-add-c1 Inv-loop μ-loop
-add-c1 c = search needs
+index-1-c1 : tie.Need-index-1-c1 Inv-loop μ-loop
+index-1-c1 c = search needs
 
-element-copy-out-c1 : tie.Need-element-copy-out-c1 Inv-loop μ-loop
-element-copy-out-c1 c = search needs
+index-2-c1 : tie.Need-index-2-c1 Inv-loop μ-loop
+index-2-c1 c = search needs
 
 mul-end-closed : tie.Need-mul-end-closed Inv-loop μ-loop
 mul-end-closed c = search needs
@@ -81,5 +84,5 @@ returns c = fill-all (c .before .loop .inv) (omega arith)
 pub resolve-ends-spec : {M : Type 1} → statement M
 resolve-ends-spec =
     tie.close
-    (tie.spec Inv-loop μ-loop infeasible-requires loop-holds mul-first array-copy-out-first mul-x array-copy-out-x mul-c0 element-copy-out-c0 mul-c1
-    add-c1 element-copy-out-c1 mul-end-closed array-read-end-closed end-closed-requires mul-out array-set-from-out add-i loop-less loop-again returns)
+    (tie.spec Inv-loop μ-loop infeasible-requires loop-holds mul-first array-copy-out-first mul-x array-copy-out-x mul-c0 index-1-c0 index-2-c0 mul-c1
+    index-1-c1 index-2-c1 mul-end-closed array-read-end-closed end-closed-requires mul-out array-set-from-out add-i loop-less loop-again returns)

@@ -2,11 +2,11 @@
 use Prim.Native.Nat.{_-_}
 use native.Mathlib.Omega.{arith}
 use borrow.Author.Needs.{needs}
-use Rattle.laws.specs.Filled.{Filled, fill-none, fill-more, fill-all}
+use Rattle.laws.specs.Laws.Filled.{Filled, fill-none, fill-more, fill-all}
 use Rattle.search.specs.Tables.{tables}
 use Rattle.search.specs.Join.{noEntry}
-use Rattle.solve.specs.Flat.{solveIn}
-use Rattle.resolve.specs.Flat.{midWith, closedWith}
+use Rattle.solve.specs.Inner.Flat.{solveIn}
+use Rattle.resolve.specs.Inner.Flat.{midWith, closedWith}
 use Rattle.resolve.proofs.resolve_mids.Statement.{statement}
 use Rattle.resolve.proofs.resolve_mids.Tie as tie
 

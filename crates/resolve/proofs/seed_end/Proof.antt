@@ -1,6 +1,6 @@
 -- `resolve::seed_end` meets its contract, by the cases of its tests. Assumes nothing.
 use borrow.Author.Needs.{needs}
-use Rattle.resolve.specs.Flat.{endWith}
+use Rattle.resolve.specs.Inner.Flat.{endWith}
 use Rattle.resolve.proofs.Answers.{past, resolved}
 use Rattle.resolve.proofs.seed_end.Statement.{statement}
 use Rattle.resolve.proofs.seed_end.Tie as tie
@@ -26,17 +26,20 @@ array-copy-out-f c = search needs
 mul-c0 : tie.Need-mul-c0
 mul-c0 c = search needs
 
-element-copy-out-c0 : tie.Need-element-copy-out-c0
-element-copy-out-c0 c = search needs
+index-1-c0 : tie.Need-index-1-c0
+index-1-c0 c = search needs
+
+index-2-c0 : tie.Need-index-2-c0
+index-2-c0 c = search needs
 
 mul-c1 : tie.Need-mul-c1
 mul-c1 c = search needs
 
-add-c1 : tie.Need-add-c1
-add-c1 c = search needs
+index-1-c1 : tie.Need-index-1-c1
+index-1-c1 c = search needs
 
-element-copy-out-c1 : tie.Need-element-copy-out-c1
-element-copy-out-c1 c = search needs
+index-2-c1 : tie.Need-index-2-c1
+index-2-c1 c = search needs
 
 end-resolve-requires : tie.Need-end-resolve-requires
 end-resolve-requires c κs = search needs
@@ -57,5 +60,5 @@ returns-3 c =
 pub seed-end-spec : {M : Type 1} → statement M
 seed-end-spec =
     tie.close
-    (tie.spec returns mul-x array-copy-out-x returns-2 mul-f array-copy-out-f mul-c0 element-copy-out-c0 mul-c1 add-c1 element-copy-out-c1
+    (tie.spec returns mul-x array-copy-out-x returns-2 mul-f array-copy-out-f mul-c0 index-1-c0 index-2-c0 mul-c1 index-1-c1 index-2-c1
     end-resolve-requires mul-out array-set-from-out returns-3)

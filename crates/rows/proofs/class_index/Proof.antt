@@ -2,7 +2,7 @@
 use mathlib.Core.Path.{sym, ap, _∙_}
 use native.Mathlib.Omega.{arith}
 use borrow.Author.Needs.{needs}
-use Rattle.laws.specs.Tests.{true-is}
+use Rattle.laws.specs.Laws.Tests.{true-is}
 use Rattle.rank.specs.Vector.{ranksBelow}
 use Rattle.rank.specs.Laws.Vector.{below-up, packed-is}
 use Rattle.rows.specs.Table.{findOf, seatAt, classIndexOf}

@@ -7,7 +7,7 @@ use native.Mathlib.Omega.{arith}
 use borrow.Author.Needs.{needs}
 use lib.Dec.{T}
 use lib.ListN.{getD}
-use Rattle.laws.specs.Tests.{true-is}
+use Rattle.laws.specs.Laws.Tests.{true-is}
 use Rattle.rank.specs.Vector.{cost, unpack, within}
 use Rattle.rank.specs.Answers.{classedOf, costedOf}
 use Rattle.rank.specs.Laws.Vector.{unpack-below, class-two, cost-accepted}

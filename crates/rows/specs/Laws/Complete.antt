@@ -6,8 +6,8 @@ use Prim.Native.Nat.{ℕ, zero, suc, _+_, _^_, _<_, _≤_}
 use native.Mathlib.Omega.{arith}
 use lib.Dec.{T, ltb, eqb, eqb→eq, ltb→lt, lt→ltb}
 use lib.ListN.{length, getD, take, drop}
-use Rattle.laws.specs.Tests.{upto, below, implies, modus, and-left, and-right}
-use Rattle.laws.specs.Trees.{Tree, build, get, get-build}
+use Rattle.laws.specs.Laws.Tests.{upto, below, implies, modus, and-left, and-right}
+use Rattle.laws.specs.Laws.Trees.{Tree, build, get, get-build}
 use Rattle.rank.specs.Vector.{sq, cost, class, pack, unpack, inClass}
 use Rattle.rank.specs.Laws.Vector.{below-up, length≤cost, rank-small, class-cost, class-ranks, unpack-pack}
 use Rattle.rows.specs.Rows.{rows}

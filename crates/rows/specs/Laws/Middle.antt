@@ -9,7 +9,7 @@ use native.Mathlib.Omega.{arith}
 use borrow.Author.Tests.{lt-ltb, le-ltb, ltb-true}
 use lib.Dec.{T, ltb}
 use lib.ListN.{length}
-use Rattle.laws.specs.Tests.{is-true, true-is}
+use Rattle.laws.specs.Laws.Tests.{is-true, true-is}
 use Rattle.rank.specs.Vector.{class, inMiddle}
 use Rattle.rank.specs.Laws.Vector.{middle-class}
 use Rattle.rows.specs.Table.{rowRanks, positionOf, middleRows, middleClass, middleRow, IsMiddleRow}

@@ -6,8 +6,9 @@ use mathlib.Core.List.{List}
 use Prim.Native.Nat.{ℕ, zero, suc, _+_, _*_, _/_, _<_, _≤_, compare}
 use native.Mathlib.Omega.{arith}
 use lib.Dec.{T}
-use Rattle.laws.specs.Order.{pick3, pick3-out, pick3-trans, Compared, less, same, more, trichotomy}
-use Rattle.laws.specs.Tables.{chain, chain-at}
+use Rattle.laws.specs.Words.{pick3}
+use Rattle.laws.specs.Laws.Order.{pick3-out, pick3-trans, Compared, less, same, more, trichotomy}
+use Rattle.laws.specs.Laws.Tables.{chain, chain-at}
 use Rattle.rank.specs.Vector.{cost, class, unpack, before, within, boundCost, boundCut, middleCost, middleCut}
 use Rattle.rank.specs.Laws.Vector.{within-down, within-self, before-not-after, before-trans}
 use Rattle.rows.specs.Rows.{rows}

@@ -8,8 +8,9 @@ use native.Mathlib.Decide.{decLt}
 use native.Mathlib.Omega.{arith}
 use lib.Dec.{T, ltb}
 use lib.ListN.{length, getD}
-use Rattle.laws.specs.Tests.{is-true}
-use Rattle.laws.specs.Lists.{seek, seek-holds, seek-first, seek-le}
+use Rattle.laws.specs.Laws.Tests.{is-true}
+use Rattle.laws.specs.Words.{seek}
+use Rattle.laws.specs.Laws.Lists.{seek-holds, seek-first, seek-le}
 use Rattle.rank.specs.Vector.{ranksBelow, class, pack, unpack, before, inClass, inMiddle, boundCost, boundCut}
 use Rattle.rank.specs.Laws.Vector.{below-up, within-down, unpack-pack}
 use Rattle.rows.specs.Rows.{rows}

@@ -6,8 +6,8 @@ use Prim.Native.Nat.{ℕ, _+_, _/_, _%_, _<_}
 use native.Mathlib.Omega.{arith}
 use lib.Dec.{T, ltb, eqb, eqb→eq}
 use lib.ListN.{length, getD}
-use Rattle.laws.specs.Tests.{split4}
-use Rattle.laws.specs.Tables.{every, at}
+use Rattle.laws.specs.Laws.Tests.{split4}
+use Rattle.laws.specs.Laws.Tables.{every, at}
 use Rattle.rank.specs.Vector.{ranksBelow, class, pack, unpack, inClass, inMiddle}
 use Rattle.rank.specs.Laws.Vector.{class-ranks}
 use Rattle.rows.specs.Rows.{rows}

@@ -5,12 +5,12 @@ use Prim.Native.Nat.{ℕ, _+_, _*_, _/_, _%_, _<_, _≤_}
 use native.Mathlib.Decide.{decLt}
 use native.Mathlib.Omega.{arith}
 use borrow.Author.Tests.{lt-ltb, le-ltb}
-use Rattle.rows.specs.Table.{seatAt, middleRows, middleSeat, numberOf, valuesOf}
+use Rattle.rows.specs.Table.{seatAt, middleRows, middleSeat, seatedNumber, valuesOf}
 use Rattle.rows.specs.declared.Seated.{Seated}
 use Rattle.rows.specs.declared.Seated.the-variants.{At, Nothing}
 
 -- no answer is a refusal
-pub number-zero : (r : Seated) → numberOf r ≡ 0
+pub number-zero : (r : Seated) → seatedNumber r ≡ 0
 number-zero (At c i) = refl
 number-zero Nothing = refl
 

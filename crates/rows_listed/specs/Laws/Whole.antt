@@ -24,7 +24,7 @@ use native.Mathlib.Nat.{pow-suc, not-suc-le-zero}
 use native.Mathlib.Omega.{arith}
 use lib.Dec.{T}
 use lib.ListN.{length, getD, take, drop, take-append-drop, length-drop}
-use Rattle.laws.specs.Tables.{chain, chain-at}
+use Rattle.laws.specs.Laws.Tables.{chain, chain-at}
 use Rattle.rank.specs.Vector.{unpack, before}
 use Rattle.rank.specs.Laws.Vector.{before-trans}
 use Rattle.listing.specs.Listing.{listing, under, grow}

@@ -10,7 +10,7 @@ use lib.Ieee.{Float, nan, binary64, ofInt}
 use mir.Syntax.{w32}
 use mir.Val.{toZ, ofZ}
 use mir.ValLaws.{toZ-ofZ}
-use Rattle.laws.specs.Lists.{filled-more}
+use Rattle.laws.specs.Laws.Lists.{filled-more}
 use Rattle.score.proofs.Lists.{doubles-filled}
 use Rattle.score.proofs.doubles.Statement.{statement}
 use Rattle.score.proofs.doubles.Tie as tie

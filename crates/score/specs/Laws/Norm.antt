@@ -25,7 +25,7 @@ use lib.ListN.{length}
 use lib.Pow.{pow-pos}
 use lib.Ieee.{Float, fin, binary64, fits, mul, div, unlike}
 use lib.Ieee.Scale.{finite}
-use Rattle.laws.specs.Whole.{gap}
+use Rattle.laws.specs.Words.{gap}
 use Rattle.float.specs.Value.{U, magUnits, isMinus, posUnits}
 use Rattle.float.specs.Calls.{quotientsOf}
 use Rattle.float.specs.Laws.Exact.{parts, unlike-same}

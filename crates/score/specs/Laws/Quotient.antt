@@ -26,7 +26,7 @@ use lib.ListN.{length, getD}
 use lib.Pow.{pow-pos}
 use lib.Ieee.{Float, nan, fin, binary64, fits, unlike, div, lt, le, eq}
 use lib.Ieee.Scale.{finite}
-use Rattle.laws.specs.Tests.{is-false, true-is, and-in, and-right}
+use Rattle.laws.specs.Laws.Tests.{is-false, true-is, and-in, and-right}
 use Rattle.float.specs.Value.{U, magUnits, isMinus, posUnits, negUnits, zero64}
 use Rattle.float.specs.Calls.{absOf, quotientsOf}
 use Rattle.float.specs.Laws.Exact.{parts}

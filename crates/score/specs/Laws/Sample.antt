@@ -9,7 +9,7 @@ use lib.Dec.{T, eqb}
 use lib.ListN.{length, getD}
 use lib.Ieee.{Float, nan, binary64, fits}
 use lib.Ieee.Scale.{finite}
-use Rattle.laws.specs.Tests.{is-true}
+use Rattle.laws.specs.Laws.Tests.{is-true}
 use Rattle.float.specs.Value.{U, magUnits}
 use Rattle.float.specs.Calls.{million64, quotientsOf}
 use Rattle.float.specs.Laws.Near.{abs-upto, upto-abs}

@@ -31,8 +31,8 @@ use lib.ListN.{length, getD}
 use lib.Pow.{pow-pos}
 use lib.Ieee.{Float, inf, fin, binary64, fits, add, mul, lt, sum, round, size, ofInt}
 use lib.Ieee.Scale.{finite}
-use Rattle.laws.specs.Tests.{is-true}
-use Rattle.laws.specs.Whole.{gap, posPart, negPart}
+use Rattle.laws.specs.Laws.Tests.{is-true}
+use Rattle.laws.specs.Words.{gap, posPart, negPart}
 use Rattle.float.specs.Value.{U, magUnits, isMinus, posUnits, negUnits, zero64}
 use Rattle.float.specs.Calls.{sumFrom}
 use Rattle.float.specs.Laws.Exact.{zero-fits, zero-mag, mag-parts, ofInt-whole, unlike-same}

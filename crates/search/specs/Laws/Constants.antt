@@ -10,7 +10,7 @@ use borrow.Author.Tests.{lt-ltb, le-ltb, ltb-false}
 use lib.Dec.{ltb}
 use lib.IntN.{pos}
 use lib.Ieee.{Float, fin, binary64, ofBits, ofInt, add, sub, mul, div, sum, lt, le, round, size}
-use Rattle.laws.specs.Lists.{tab}
+use Rattle.laws.specs.Words.{tab}
 use Rattle.rank.specs.Coord.{rankOf}
 use Rattle.rank.specs.Answers.{markOf}
 use Rattle.float.specs.Value.{magUnits, zero64}

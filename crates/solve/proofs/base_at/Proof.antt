@@ -7,25 +7,25 @@ use native.Mathlib.Numerals.{add-one}
 use lib.ListN.{getD}
 use lib.Bits.{bitOr}
 use lib.Ieee.{Float, binary64, add, nan, ofBits}
-use Rattle.search.specs.declared.Now.{Now}
+use Rattle.search.specs.declared.Candidate.{Candidate}
 use Rattle.search.specs.Base.{slotOf}
-use Rattle.solve.specs.Flat.{baseIn}
+use Rattle.solve.specs.Inner.Flat.{baseIn}
 use borrow.Author.Needs.{needs}
 use native.Mathlib.Omega.{arith}
 use Rattle.solve.proofs.base_at.Statement.{statement}
 use Rattle.solve.proofs.base_at.Tie as tie
 
 more : (dist : List Float) (weight rank at : List ℕ) (j0 fix n : ℕ) {c k q f w r m : ℕ} {d : Float}
-    → _≡_ {A = Now} (record { cost = c; key = k; dist = d }) (baseIn dist weight rank at j0 fix n) → q ≡ getD at n 0 → f ≡ slotOf j0 fix n
+    → _≡_ {A = Candidate} (record { cost = c; key = k; dist = d }) (baseIn dist weight rank at j0 fix n) → q ≡ getD at n 0 → f ≡ slotOf j0 fix n
     → w ≡ getD weight (5 * q + f) 0 → r ≡ getD rank (5 * q + f) 0 → m ≡ r * 2 ^ (4 * n) % 2 ^ 32
-    → _≡_ {A = Now} (record { cost = c + w; key = bitOr k m; dist = add binary64 d (getD dist (5 * q + f) nan) })
+    → _≡_ {A = Candidate} (record { cost = c + w; key = bitOr k m; dist = add binary64 d (getD dist (5 * q + f) nan) })
     (baseIn dist weight rank at j0 fix (suc n))
 unfolding baseIn
 more dist weight rank at j0 fix n h hq hf hw hr hm = rw (← h, hm, hw, hr, hf, hq)
 
 abbrev Inv-loop : tie.InvT-loop
 Inv-loop dist weight rank at j0 fix cost₀ key₀ d₀ j₀ cost key d j =
-    (j ≤ 8) × ((cost ≤ 65536 * j) × (_≡_ {A = Now} (record { cost = cost; key = key; dist = d }) (baseIn dist weight rank at j0 fix j)))
+    (j ≤ 8) × ((cost ≤ 65536 * j) × (_≡_ {A = Candidate} (record { cost = cost; key = key; dist = d }) (baseIn dist weight rank at j0 fix j)))
 
 abbrev μ-loop : tie.MeasureT-loop
 μ-loop dist weight rank at j0 fix cost₀ key₀ d₀ j₀ cost key d j = 8 - j

@@ -5,15 +5,15 @@ use mathlib.Core.Path.{_≡_, _∙_, sym}
 use mathlib.Core.Bool.{Bool}
 use mathlib.Core.List.{List}
 use lib.Dec.{eqb}
-use Rattle.laws.specs.Tests.{cond-same}
+use Rattle.laws.specs.Laws.Tests.{cond-same}
 use lib.Ieee.{Float}
 use Rattle.search.specs.declared.Top.{Top}
-use Rattle.search.specs.declared.Now.{Now}
+use Rattle.search.specs.declared.Candidate.{Candidate}
 use Rattle.search.specs.declared.Best.{Best}
 use Rattle.search.specs.declared.Closed.{Closed}
 use Rattle.search.specs.Base.{baseBest}
 use Rattle.solve.specs.declared.Pair.{Pair}
-use Rattle.solve.specs.Flat.{placesOf, topIn, parIn, baseIn, steppedIn, baseFor, pairIn}
+use Rattle.solve.specs.Inner.Flat.{placesOf, topIn, parIn, baseIn, steppedIn, baseFor, pairIn}
 use Rattle.solve.proofs.Sums.{one}
 use borrow.Author.Needs.{needs}
 use native.Mathlib.Omega.{arith}
@@ -21,7 +21,7 @@ use Rattle.solve.proofs.base_pair.Statement.{statement}
 use Rattle.solve.proofs.base_pair.Tie as tie
 
 module _ (regret dist : List Float) (weight rank odd : List ℕ) (up : List Bool) (pattern : ℕ)
-    (b0 b1 : Closed) {at : List ℕ} {t : Top} {n m : Now} {p : ℕ} {x y : Best}
+    (b0 b1 : Closed) {at : List ℕ} {t : Top} {n m : Candidate} {p : ℕ} {x y : Best}
     (ha : at ≡ placesOf pattern 0) (ht : t ≡ topIn regret at 6) (hn : n ≡ baseIn dist weight rank at 0 2 8)
     (hm : m ≡ steppedIn dist weight rank up at n (t .j0)) (hp : p ≡ parIn odd at 8) where
   even : p ≡ 0 → x ≡ baseBest b0 n → y ≡ baseBest b1 m

@@ -8,10 +8,10 @@ use lib.Dec.{T, eqb, eqb→eq}
 use lib.Ieee.{Float}
 use borrow.Author.Tests.{eq-eqb}
 use Rattle.search.specs.declared.Top.{Top}
-use Rattle.search.specs.declared.Now.{Now}
+use Rattle.search.specs.declared.Candidate.{Candidate}
 use Rattle.search.specs.Solve.{otherOf}
 use Rattle.solve.specs.declared.Start.{Start}
-use Rattle.solve.specs.Flat.{topIn, fixIn, baseIn, startIn}
+use Rattle.solve.specs.Inner.Flat.{topIn, fixIn, baseIn, startIn}
 use Rattle.solve.specs.Laws.{other-lt}
 use Rattle.solve.specs.Inner.{Apart, Covered}
 use Rattle.solve.proofs.Sums.{two}
@@ -23,14 +23,14 @@ differ : (j j0 j1 : ℕ) (b : Bool) → b ≡ eqb j j0 → (j0 ≡ j1 → ⊥) �
 differ j j0 j1 true e h q = h (sym (eqb→eq j j0 (subst T e tt)) ∙ q)
 differ j j0 j1 false e h q = subst T (sym (e ∙ eq-eqb j j0 q)) tt
 
-covered : (dist : List Float) (weight rank at : List ℕ) (t : Top) (fix : ℕ) {n : Now} → Apart t 8 → n ≡ baseIn dist weight rank at (t .j0) fix 8
+covered : (dist : List Float) (weight rank at : List ℕ) (t : Top) (fix : ℕ) {n : Candidate} → Apart t 8 → n ≡ baseIn dist weight rank at (t .j0) fix 8
     → Covered weight at t fix (n .cost)
 covered dist weight rank at t fix a e j h =
     rw e
     (two dist weight rank at (t .j0) fix 8 j (otherOf j (t .j0) (t .j1)) h (other-lt (eqb j (t .j0)) (t .j0) (t .j1) (a .0) (a .1 .0))
     (differ j (t .j0) (t .j1) (eqb j (t .j0)) refl (a .1 .1)))
 
-begun : (regret dist : List Float) (weight rank odd : List ℕ) (up : List Bool) (at : List ℕ) (want : ℕ) {t : Top} {f : ℕ} {n : Now}
+begun : (regret dist : List Float) (weight rank odd : List ℕ) (up : List Bool) (at : List ℕ) (want : ℕ) {t : Top} {f : ℕ} {n : Candidate}
     → t ≡ topIn regret at 6 → f ≡ fixIn odd up at want (t .j0) → n ≡ baseIn dist weight rank at (t .j0) f 8
     → _≡_ {A = Start} (record { top = t; fix = f; n = n }) (startIn regret dist weight rank odd up at want)
 unfolding startIn

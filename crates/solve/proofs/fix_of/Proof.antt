@@ -5,7 +5,7 @@ use mathlib.Core.Bool.{Bool, false, cond}
 use mathlib.Core.List.{List}
 use lib.ListN.{getD}
 use borrow.Author.Tests.{eq-eqb, ne-eqb}
-use Rattle.solve.specs.Flat.{parIn, fixIn}
+use Rattle.solve.specs.Inner.Flat.{parIn, fixIn}
 use borrow.Author.Needs.{needs}
 use native.Mathlib.Omega.{arith}
 use Rattle.solve.proofs.fix_of.Statement.{statement}

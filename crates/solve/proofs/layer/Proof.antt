@@ -8,7 +8,7 @@ use Rattle.search.specs.declared.Closed.{Closed}
 use Rattle.search.specs.declared.Best.{Best}
 use Rattle.search.specs.Solve.{keptBase}
 use Rattle.solve.specs.declared.Start.{Start}
-use Rattle.solve.specs.Flat.{startIn, movedFrom, layerIn}
+use Rattle.solve.specs.Inner.Flat.{startIn, movedFrom, layerIn}
 use borrow.Author.Needs.{needs}
 use Rattle.solve.proofs.layer.Statement.{statement}
 use Rattle.solve.proofs.layer.Tie as tie

@@ -7,13 +7,13 @@ use lib.Dec.{eqb}
 use lib.Ieee.{Float}
 use Rattle.search.specs.declared.Closed.{Closed}
 use Rattle.search.specs.declared.Best.{Best}
-use Rattle.search.specs.declared.Now.{Now}
+use Rattle.search.specs.declared.Candidate.{Candidate}
 use Rattle.search.specs.declared.Top.{Top}
 use Rattle.search.specs.Base.{slotOf}
 use Rattle.search.specs.Solve.{otherOf}
 use Prim.Native.Nat.{ℕ, suc, _≤_, _+_, _-_, _*_}
 use mathlib.Core.Path.{_≡_}
-use Rattle.solve.specs.Flat.{spot, turnIn, movesIn}
+use Rattle.solve.specs.Inner.Flat.{spot, turnIn, movesIn}
 use borrow.Author.Needs.{needs}
 use native.Mathlib.Omega.{arith}
 use Rattle.solve.proofs.moves.Statement.{statement}
@@ -26,7 +26,7 @@ covered : (weight at : List ℕ) (top : Top) (fix j cost : ℕ) {o q f g q2 : �
     → getD weight (5 * q + f) 0 + getD weight (5 * q2 + g) 0 ≤ cost
 covered weight at top fix j cost h ho hq hf hg h2 = rw (hq, hf, h2, hg, ho) h
 
-moved : (dist : List Float) (weight rank : List ℕ) (up : List Bool) (at : List ℕ) (top : Top) (fix : ℕ) (bound : Closed) (n : Now) (start : Best)
+moved : (dist : List Float) (weight rank : List ℕ) (up : List Bool) (at : List ℕ) (top : Top) (fix : ℕ) (bound : Closed) (n : Candidate) (start : Best)
     (j : ℕ)
     {best x : Best} {o q f g q2 t t2 : ℕ}
     → best ≡ movesIn dist weight rank up at top fix bound n start j → o ≡ otherOf j (top .j0) (top .j1) → q ≡ getD at j 0 → f ≡ slotOf (top .j0) fix j

@@ -3,10 +3,10 @@ use Prim.Native.Nat.{ℕ, _≤_, _<_, _-_}
 use mathlib.Core.Path.{_≡_}
 use lib.ListN.{length, getD, length-set}
 use borrow.Author.Count.{below-none}
-use Rattle.laws.specs.Lists.{filled, filled-more}
+use Rattle.laws.specs.Laws.Lists.{filled, filled-more}
 use Rattle.search.specs.Solve.{unmet}
 use Rattle.solve.specs.declared.Pair.{Pair}
-use Rattle.solve.specs.Flat.{pairIn}
+use Rattle.solve.specs.Inner.Flat.{pairIn}
 use borrow.Author.Needs.{needs}
 use native.Mathlib.Omega.{arith}
 use Rattle.solve.proofs.pairs.Statement.{statement}

@@ -4,7 +4,7 @@ use mathlib.Core.Path.{_≡_}
 use mathlib.Core.List.{List}
 use native.Mathlib.Numerals.{add-one}
 use lib.ListN.{getD}
-use Rattle.solve.specs.Flat.{parIn}
+use Rattle.solve.specs.Inner.Flat.{parIn}
 use borrow.Author.Needs.{needs}
 use native.Mathlib.Omega.{arith}
 use Rattle.solve.proofs.parity_of.Statement.{statement}

@@ -2,8 +2,8 @@
 use Prim.Native.Nat.{ℕ, _≤_, _<_, _-_, _+_, _*_}
 use mathlib.Core.Path.{_≡_, ap}
 use lib.ListN.{length, getD, length-set}
-use Rattle.laws.specs.Lists.{filled, filled-more}
-use Rattle.solve.specs.Flat.{placeOf, placesOf}
+use Rattle.laws.specs.Laws.Lists.{filled, filled-more}
+use Rattle.solve.specs.Inner.Flat.{placeOf, placesOf}
 use borrow.Author.Count.{below-none}
 use borrow.Author.Needs.{needs}
 use native.Mathlib.Omega.{arith}

@@ -11,7 +11,7 @@ use Rattle.search.specs.Solve.{keptBase, unmet, foundOf}
 use Rattle.solve.specs.declared.Start.{Start}
 use Prim.Native.Nat.{ℕ, suc, _≤_, _+_, _-_, min}
 use mathlib.Core.Path.{_≡_, _∙_, ap}
-use Rattle.solve.specs.Flat.{placesOf, startIn, movedFrom, layerIn, layersIn, solveIn}
+use Rattle.solve.specs.Inner.Flat.{placesOf, startIn, movedFrom, layerIn, layersIn, solveIn}
 use borrow.Author.Needs.{needs}
 use native.Mathlib.Omega.{arith}
 use Rattle.solve.proofs.solve.Statement.{statement}

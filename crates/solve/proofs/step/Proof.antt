@@ -7,15 +7,15 @@ use lib.ListN.{getD}
 use lib.Ieee.{Float, le}
 use Rattle.search.specs.declared.Closed.{Closed}
 use Rattle.search.specs.declared.Best.{Best}
-use Rattle.search.specs.declared.Now.{Now}
+use Rattle.search.specs.declared.Candidate.{Candidate}
 use Rattle.search.specs.Bound.{holds}
 use Rattle.search.specs.Solve.{keyMoved}
-use Rattle.solve.specs.Flat.{stepIn, costIn}
+use Rattle.solve.specs.Inner.Flat.{stepIn, costIn}
 use borrow.Author.Needs.{needs}
 use Rattle.solve.proofs.step.Statement.{statement}
 use Rattle.solve.proofs.step.Tie as tie
 
-module _ (d : Float) (weight rank : List ℕ) (bound : Closed) (n : Now) (best : Best) (j a a2 j2 b b2 : ℕ) where
+module _ (d : Float) (weight rank : List ℕ) (bound : Closed) (n : Candidate) (best : Best) (j a a2 j2 b b2 : ℕ) where
   far : le (best .d) d ≡ true → best ≡ stepIn d weight rank bound n best j a a2 j2 b b2
   unfolding stepIn
   far h = simp h

@@ -5,18 +5,18 @@ use mathlib.Core.Bool.{Bool, false, cond}
 use mathlib.Core.List.{List}
 use lib.ListN.{getD}
 use lib.Ieee.{Float, binary64, add, sub, nan}
-use Rattle.search.specs.declared.Now.{Now}
+use Rattle.search.specs.declared.Candidate.{Candidate}
 use Rattle.search.specs.Base.{keySet}
-use Rattle.solve.specs.Flat.{steppedIn}
+use Rattle.solve.specs.Inner.Flat.{steppedIn}
 use borrow.Author.Needs.{needs}
 use native.Mathlib.Omega.{arith}
 use Rattle.solve.proofs.stepped.Statement.{statement}
 use Rattle.solve.proofs.stepped.Tie as tie
 
-made : (dist : List Float) (weight rank : List ℕ) (up : List Bool) (at : List ℕ) (s : Now) (j : ℕ) {i f a b x k : ℕ} → i ≡ getD at j 0
+made : (dist : List Float) (weight rank : List ℕ) (up : List Bool) (at : List ℕ) (s : Candidate) (j : ℕ) {i f a b x k : ℕ} → i ≡ getD at j 0
     → f ≡ cond (getD up i false) 3 1 → a ≡ getD weight (5 * i + 2) 0 → b ≡ getD weight (5 * i + f) 0 → x ≡ getD rank (5 * i + f) 0
     → k ≡ keySet (s .key) j x
-    → _≡_ {A = Now}
+    → _≡_ {A = Candidate}
     (record { cost = s .cost - a + b; key = k; dist = add binary64 (sub binary64 (s .dist) (getD dist (5 * i + 2) nan)) (getD dist (5 * i + f) nan) })
     (steppedIn dist weight rank up at s j)
 unfolding steppedIn

@@ -8,8 +8,8 @@ use native.Mathlib.Numerals.{add-one}
 use lib.ListN.{getD}
 use lib.Ieee.{Float, lt, nan}
 use Rattle.search.specs.declared.Top.{Top}
-use Rattle.solve.specs.Flat.{topIn, regretAt}
-use Rattle.laws.specs.Tests.{cond-ap}
+use Rattle.solve.specs.Inner.Flat.{topIn, regretAt}
+use Rattle.laws.specs.Laws.Tests.{cond-ap}
 use Rattle.solve.specs.Laws.{apart}
 use borrow.Author.Needs.{needs}
 use native.Mathlib.Omega.{arith}

@@ -5,13 +5,13 @@ use mathlib.Core.List.{List}
 use lib.Ieee.{Float}
 use Rattle.search.specs.declared.Closed.{Closed}
 use Rattle.search.specs.declared.Best.{Best}
-use Rattle.search.specs.declared.Now.{Now}
-use Rattle.solve.specs.Flat.{stepIn, distIn, turnIn}
+use Rattle.search.specs.declared.Candidate.{Candidate}
+use Rattle.solve.specs.Inner.Flat.{stepIn, distIn, turnIn}
 use borrow.Author.Needs.{needs}
 use Rattle.solve.proofs.turn.Statement.{statement}
 use Rattle.solve.proofs.turn.Tie as tie
 
-both : (dist : List Float) (weight rank : List ℕ) (bound : Closed) (n : Now) (best : Best) (j a j2 b b2 : ℕ) {down x : Best}
+both : (dist : List Float) (weight rank : List ℕ) (bound : Closed) (n : Candidate) (best : Best) (j a j2 b b2 : ℕ) {down x : Best}
     → down ≡ stepIn (distIn dist (n .dist) a (a - 1) b b2) weight rank bound n best j a (a - 1) j2 b b2
     → x ≡ stepIn (distIn dist (n .dist) a (a + 1) b b2) weight rank bound n down j a (a + 1) j2 b b2
     → x ≡ turnIn dist weight rank bound n best j a j2 b b2

@@ -8,7 +8,7 @@ use mir.Val.{SFits}
 use mir.Facts.{toZ-ofZ}
 use lib.IntN.{pos}
 use lib.ListN.{getD}
-use Rattle.laws.specs.Filled.{Filled, fill-none, fill-more, fill-all}
+use Rattle.laws.specs.Laws.Filled.{Filled, fill-none, fill-more, fill-all}
 use Rattle.tetra.proofs.block.Statement.{statement}
 use Rattle.tetra.proofs.block.Tie as tie
 

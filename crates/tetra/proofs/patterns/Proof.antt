@@ -8,7 +8,7 @@ use lib.Bits.{and-mask, bitAnd}
 use Rattle.word.specs.Word.{Narrow, fieldsOf}
 use Rattle.word.specs.Laws.{split-narrow}
 use Rattle.word.specs.declared.Fields.{Fields}
-use Rattle.trellis.specs.Code.{wordOf, columns, label, inputOf}
+use Rattle.trellis.specs.Code.{codewordOf, columns, label, inputOf}
 use Rattle.trellis.specs.Laws.Code.{word-lt}
 use Rattle.tetra.specs.declared.Bytes.{Bytes}
 use Rattle.tetra.specs.Tetra.{codewordAt, patternsOf}
@@ -64,7 +64,7 @@ returns c =
     let w = k .before .args .word in
     bytes w (c .codeword .result)
     (c .codeword .ensures
-    ∙ ap (wordOf columns) (c .before .linear-input .ensures ∙ ap (λ (f : Fields). inputOf (f .s8) (f .b1) (f .b2) (f .b3)) (k .split .ensures)
+    ∙ ap (codewordOf columns) (c .before .linear-input .ensures ∙ ap (λ (f : Fields). inputOf (f .s8) (f .b1) (f .b2) (f .b3)) (k .split .ensures)
     ∙ input (fieldsOf w) (split-narrow w)))
 
 pub patterns-spec : {M : Type 1} → statement M

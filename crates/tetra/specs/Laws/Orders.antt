@@ -8,9 +8,11 @@ use lib.Dec.{T, eqb, eqb→eq}
 use lib.IntN.{ℤ, pos}
 use lib.ListN.{length, getD, length-map}
 use lib.Seq.{ext-getD}
-use Rattle.laws.specs.Tests.{and-left, and-right, and-in, eq→eqb}
-use Rattle.laws.specs.Lists.{tab, tab-length, tab-at, map-at}
-use Rattle.laws.specs.Whole.{modZ, parity-add}
+use Rattle.laws.specs.Laws.Tests.{and-left, and-right, and-in, eq→eqb}
+use Rattle.laws.specs.Words.{tab}
+use Rattle.laws.specs.Laws.Lists.{tab-length, tab-at, map-at}
+use Rattle.laws.specs.Words.{modZ}
+use Rattle.laws.specs.Laws.Whole.{parity-add}
 use Rattle.rank.specs.Coord.{parityOf, kOf}
 use Rattle.rank.specs.Section.{uniform, kSum}
 use Rattle.trellis.specs.Trio.{order, places}

@@ -7,7 +7,7 @@ use mathlib.Core.Path.{_≡_, refl}
 use mathlib.Core.List.{List, [], _∷_, map}
 use Prim.Native.Nat.{ℕ, _^_}
 use lib.IntN.{ℤ, pos, negsuc}
-use Rattle.laws.specs.Lists.{tab}
+use Rattle.laws.specs.Words.{tab}
 use Rattle.word.specs.Word as word
 use Rattle.rank.specs.Coord.{valOf}
 use Rattle.rank.specs.Section.{pointAt}
@@ -299,6 +299,6 @@ abbrev written : ℕ × List ℤ → List ℤ
 written e = e .1
 
 pub pinned : (map decoded oneBit ≡ map written oneBit) × (map decoded allFields ≡ map written allFields)
-unfolding tab word.cut valOf pointAt rows rowRanks middleClass middleRow columns order places codewordAt
+unfolding tab word.fieldAt valOf pointAt rows rowRanks middleClass middleRow columns order places codewordAt
     thirdClass ranksAt trioPoint natural trioPointOf pointOf
 pinned = (refl, refl)

@@ -9,9 +9,9 @@ use lib.Pow.{shr-shr}
 use lib.Dec.{T, leb, leb→le}
 use lib.IntN.{ℤ, pos, natAbs}
 use lib.ListN.{length, getD, take, drop}
-use Rattle.laws.specs.Tests.{upto, below2}
-use Rattle.laws.specs.Whole.{modZ}
-use Rattle.laws.specs.Bits.{weight}
+use Rattle.laws.specs.Laws.Tests.{upto, below2}
+use Rattle.laws.specs.Words.{modZ}
+use Rattle.laws.specs.Words.{weight}
 use Rattle.word.specs.Word.{Narrow}
 use Rattle.word.specs.declared.Fields.{Fields}
 use Rattle.rank.specs.Coord.{rankOf, valOf}
@@ -23,7 +23,7 @@ use Rattle.rows.specs.Table.{rowRanks, middleClass, middleRow}
 use Rattle.rows.specs.Laws.Rule.{row-class, row-ranks}
 use Rattle.rows.specs.Laws.Places.{number-class}
 use Rattle.rows.specs.Laws.Middle.{middle-lt, middle-row-class}
-use Rattle.trellis.specs.Code.{wordOf, columns, label}
+use Rattle.trellis.specs.Code.{codewordOf, columns, label}
 use Rattle.trellis.specs.Laws.Code.{word-lt, weight-even}
 use Rattle.tetra.specs.Lattice.{Codeword}
 use Rattle.tetra.specs.Tetra.{codewordAt, thirdClass, ranksAt, trioPoint}
@@ -155,7 +155,7 @@ module _ (f : Fields) (n : Narrow f) where
   unfolding trioPoint codewordAt
   bits-are =
       let x = label (f .s8) (f .b1) (f .b2) (f .b3) in
-      point-bits (f .p) (n .p) (wordOf columns x) (ranksAt f) ranks-below ∙ ap (λ (m : ℕ). wordOf columns x % 2 ^ m) ranks-size
+      point-bits (f .p) (n .p) (codewordOf columns x) (ranksAt f) ranks-below ∙ ap (λ (m : ℕ). codewordOf columns x % 2 ^ m) ranks-size
       ∙ mod-eq-of-lt (word-lt x)
 
   pub point-codeword : Codeword (bitsOf (trioPoint f))

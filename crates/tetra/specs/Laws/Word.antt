@@ -9,8 +9,9 @@ use lib.Dec.{T, ltb, eqb, ltb→lt, lt→ltb, eqb→eq}
 use lib.IntN.{ℤ, pos}
 use lib.ListN.{length, getD, take, drop, length-map, length-drop, take-append-drop}
 use lib.Seq.{take-all, drop-drop, length-take-le}
-use Rattle.laws.specs.Tests.{and-in, split4, split3, eq→eqb}
-use Rattle.laws.specs.Whole.{modZ, mod2-lt}
+use Rattle.laws.specs.Laws.Tests.{and-in, split4, split3, eq→eqb}
+use Rattle.laws.specs.Words.{modZ}
+use Rattle.laws.specs.Laws.Whole.{mod2-lt}
 use Rattle.word.specs.Word.{Narrow, fieldsOf}
 use Rattle.word.specs.Laws.{noGain, split-narrow}
 use Rattle.word.specs.declared.Fields.{Fields}
@@ -24,7 +25,7 @@ use Rattle.rows.specs.Laws.Rule.{row-in}
 use Rattle.rows.specs.Laws.Middle.{middle-row-in}
 use Rattle.rows.specs.Answers.{class-index-in, class-index-row, mixed-index-in, mixed-index-row, mixed-index-back}
 use Rattle.rows.specs.declared.Seated.the-variants.{At}
-use Rattle.trellis.specs.Code.{wordOf, columns, label}
+use Rattle.trellis.specs.Code.{codewordOf, columns, label}
 use Rattle.trellis.specs.Trellis.{labelOf}
 use Rattle.trellis.specs.Laws.Code.{label-low}
 use Rattle.trellis.specs.Laws.Back.{label-word, label-iff, label-at, label-parts, parts-label}
@@ -198,7 +199,7 @@ module _ (y : List ℤ) (h : HasWord y) where
   found-code : codewordAt found ≡ bitsOf (trio y)
   unfolding codewordAt found
   found-code =
-      ap (wordOf columns) (parts-label (labelFor y)) ∙ label-low (labelFor y) ∙ label-word (bitsOf (trio y)) label-lt
+      ap (codewordOf columns) (parts-label (labelFor y)) ∙ label-low (labelFor y) ∙ label-word (bitsOf (trio y)) label-lt
 
   found-point : trioPoint found ≡ trio y
   unfolding trioPoint found

@@ -4,14 +4,14 @@ use mathlib.Core.Path.{_≡_, ap, subst, _∙_}
 use Prim.Native.Nat.{ℕ, _/_, _^_, _≤_}
 use native.Mathlib.Omega.{arith}
 use native.Mathlib.Nat.{div-one}
-use Rattle.trellis.specs.Code.{wordOf}
+use Rattle.trellis.specs.Code.{codewordOf}
 use Rattle.trellis.proofs.Columns.{word-set, word-clear, word-end}
 use lib.ListN.{length, drop}
 use Rattle.trellis.proofs.combine.Statement.{statement}
 use Rattle.trellis.proofs.combine.Tie as tie
 
 abbrev Inv-loop : tie.InvT-loop
-Inv-loop cs x acc₀ j₀ acc j = (j ≤ length cs) × (acc ≡ wordOf (drop j cs) (x / 2 ^ j))
+Inv-loop cs x acc₀ j₀ acc j = (j ≤ length cs) × (acc ≡ codewordOf (drop j cs) (x / 2 ^ j))
 
 abbrev μ-loop : tie.MeasureT-loop
 μ-loop cs x acc₀ j₀ acc j = j
@@ -57,7 +57,7 @@ returns c =
     let l = c .before .loop in
     let a = c .before .before .args in
     let e : l .j ≡ 0 = omega arith in
-    subst (λ (n : ℕ). l .acc ≡ wordOf (drop n (a .cs .now)) (a .x / 2 ^ n)) e (l .inv .1) ∙ ap (wordOf (a .cs .now)) (div-one (a .x))
+    subst (λ (n : ℕ). l .acc ≡ codewordOf (drop n (a .cs .now)) (a .x / 2 ^ n)) e (l .inv .1) ∙ ap (codewordOf (a .cs .now)) (div-one (a .x))
 
 pub combine-spec : {M : Type 1} → statement M
 combine-spec =

@@ -3,7 +3,7 @@ use borrow.Author.Needs.{needs}
 use native.Mathlib.Omega.{arith}
 use mathlib.Core.Path.{sym, refl}
 use lib.ListN.{List·getD-eq-default}
-use Rattle.laws.specs.Lists.{tab}
+use Rattle.laws.specs.Words.{tab}
 use Rattle.trellis.specs.Trio.{order, places}
 use Rattle.trellis.specs.Laws.Trio.{places-length}
 use Rattle.trellis.proofs.place.Statement.{statement}

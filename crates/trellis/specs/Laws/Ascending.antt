@@ -5,7 +5,7 @@ use Prim.Native.Nat.{ℕ, zero, suc, _<_}
 use native.Mathlib.Nat.{le-of-suc-le-suc, not-suc-le-zero, lt-trans}
 use lib.Dec.{T, ltb, ltb→lt}
 use lib.ListN.{length, getD}
-use Rattle.laws.specs.Tests.{and-left, and-right}
+use Rattle.laws.specs.Laws.Tests.{and-left, and-right}
 
 -- ---- f ascends along the list, from above p on
 module _ (f : ℕ → ℕ) where

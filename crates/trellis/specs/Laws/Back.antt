@@ -9,9 +9,10 @@ use native.Mathlib.Omega.{arith}
 use lib.Dec.{T, eqb}
 use lib.Pow.{mod-pow-add}
 use lib.ListN.{length, getD, drop, length-take, length-drop}
-use Rattle.laws.specs.Lists.{tab-length, tab-at, seek, seek-holds}
-use Rattle.laws.specs.Tables.{every}
-use Rattle.trellis.specs.Code.{wordOf, columns, codewords, label, first, second, third}
+use Rattle.laws.specs.Words.{seek}
+use Rattle.laws.specs.Laws.Lists.{tab-length, tab-at, seek-holds}
+use Rattle.laws.specs.Laws.Tables.{every}
+use Rattle.trellis.specs.Code.{codewordOf, columns, codewords, label, first, second, third}
 use Rattle.trellis.specs.Tables.{prefixes, middles, suffixes}
 use Rattle.trellis.specs.Trellis.{row, prefixOf, middleOf, nextOf, suffixOf, path, s8Of, b1Of, b2Of, b3Of, s16Of, labelOf}
 use Rattle.trellis.specs.Trellis.{openingOf, passageOf, closingOf, openingSays, passageSays, closingSays}
@@ -27,7 +28,7 @@ use Rattle.trellis.specs.declared.Closing.{Closing}
 use Rattle.trellis.specs.declared.Closing.the-variants.{By, NoSuffix}
 
 -- ---- an answer is known from what it says
-opening-by : (o p : Opening) → openingSays o ≡ openingSays p → o ≡ p
+pub opening-by : (o p : Opening) → openingSays o ≡ openingSays p → o ≡ p
 opening-by (From s b) (From t d) e = cc
 opening-by (From s b) NoState e = cc
 opening-by NoState (From t d) e = cc
@@ -200,11 +201,11 @@ module _ (s16 c3 : ℕ) where
 -- ---- a codeword
 codewords-length : length codewords ≡ 4096
 unfolding codewords
-codewords-length = tab-length ℕ (wordOf columns) 4096
+codewords-length = tab-length ℕ (codewordOf columns) 4096
 
-codewords-at : (x : ℕ) → x < 4096 → getD codewords x 0 ≡ wordOf columns x
+codewords-at : (x : ℕ) → x < 4096 → getD codewords x 0 ≡ codewordOf columns x
 unfolding codewords
-codewords-at x h = tab-at ℕ 0 (wordOf columns) 4096 x h
+codewords-at x h = tab-at ℕ 0 (codewordOf columns) 4096 x h
 
 codewords-distinct : Distinct codewords
 codewords-distinct i j h k e =
@@ -212,21 +213,21 @@ codewords-distinct i j h k e =
     let hj : j < 4096 = omega (arith, codewords-length) in
     distinct i j hi hj (sym (codewords-at i hi) ∙ e ∙ codewords-at j hj)
 
-pub label-word : (w : ℕ) → labelOf w < 4096 → wordOf columns (labelOf w) ≡ w
+pub label-word : (w : ℕ) → labelOf w < 4096 → codewordOf columns (labelOf w) ≡ w
 unfolding labelOf
 label-word w h = sym (codewords-at (labelOf w) h) ∙ seek-holds w codewords (omega (arith, codewords-length))
 
-pub label-iff : (w x : ℕ) → x < 4096 → (labelOf w ≡ x) ↔ (wordOf columns x ≡ w)
+pub label-iff : (w x : ℕ) → x < 4096 → (labelOf w ≡ x) ↔ (codewordOf columns x ≡ w)
 unfolding labelOf
 label-iff w x h = (
-  λ e. ap (wordOf columns) (sym e) ∙ label-word w (omega arith),
+  λ e. ap (codewordOf columns) (sym e) ∙ label-word w (omega arith),
   λ e. seek-is w codewords codewords-distinct x (omega (arith, codewords-length)) (codewords-at x h ∙ e),
 )
 
-pub label-at : (x : ℕ) → x < 4096 → labelOf (wordOf columns x) ≡ x
-label-at x h = label-iff (wordOf columns x) x h .1 refl
+pub label-at : (x : ℕ) → x < 4096 → labelOf (codewordOf columns x) ≡ x
+label-at x h = label-iff (codewordOf columns x) x h .1 refl
 
-pub label-none : (w : ℕ) → (labelOf w ≡ 4096) ↔ ((x : ℕ) → x < 4096 → wordOf columns x ≡ w → ⊥)
+pub label-none : (w : ℕ) → (labelOf w ≡ 4096) ↔ ((x : ℕ) → x < 4096 → codewordOf columns x ≡ w → ⊥)
 unfolding labelOf
 label-none w = (
   λ e x h q. omega (arith, label-iff w x h .1 q),
@@ -245,17 +246,17 @@ parts-label x = sum _ _ _ _ _ _ _ (mod-pow-add x 1 6) (mod-pow-add x 4 7) (mod-p
     sum : (a b c d m n o : ℕ) → m ≡ b * 64 + a → n ≡ c * 128 + m → o ≡ d * 2048 + n → a + 64 * b + 128 * c + 2048 * d ≡ o
     sum a b c d m n o e f g = omega arith
 
-pub path-word : (s8 b1 b2 b3 : ℕ) → s8 < 64 → b1 < 2 → b2 < 16 → b3 < 2 → wordOf columns (label s8 b1 b2 b3) ≡ path s8 b1 b2 b3
+pub path-word : (s8 b1 b2 b3 : ℕ) → s8 < 64 → b1 < 2 → b2 < 16 → b3 < 2 → codewordOf columns (label s8 b1 b2 b3) ≡ path s8 b1 b2 b3
 path-word s8 b1 b2 b3 h1 h2 h3 h4 =
     let q = label-parts s8 b1 b2 b3 h1 h2 h3 h4 in
     let x = label s8 b1 b2 b3 in
     path-at x ∙ ap₂ (λ (s b : ℕ). path s b (b2Of x) (b3Of x)) (q .0) (q .1) ∙ ap₂ (λ (b d : ℕ). path s8 b1 b d) (q .2) (q .3)
 
 -- the sections of a codeword lead back along its path
-pub walk-back : (x : ℕ) → (openingOf (first (wordOf columns x)) ≡ From (s8Of x) (b1Of x))
-    × (passageOf (s8Of x) (second (wordOf columns x)) ≡ Along (b2Of x) (s16Of x)) × (closingOf (s16Of x) (third (wordOf columns x)) ≡ By (b3Of x))
+pub walk-back : (x : ℕ) → (openingOf (first (codewordOf columns x)) ≡ From (s8Of x) (b1Of x))
+    × (passageOf (s8Of x) (second (codewordOf columns x)) ≡ Along (b2Of x) (s16Of x)) × (closingOf (s16Of x) (third (codewordOf columns x)) ≡ By (b3Of x))
 walk-back x =
-    let w = wordOf columns x in (
+    let w = codewordOf columns x in (
       opening-by _ _ (opening-iff (first w) (s8Of x) (b1Of x) .1 (omega arith, omega arith, sym (first-at x))),
       passage-by _ _ (passage-iff (s8Of x) (second w) (b2Of x) (s16Of x) .1 (omega arith, omega arith, sym (second-at x), refl)),
       closing-by _ _ (closing-iff (s16Of x) (third w) (b3Of x) .1 (next-lt (s8Of x) (b2Of x), omega arith, sym (third-at x))),
@@ -263,7 +264,7 @@ walk-back x =
 
 -- and three bytes that lead back along a path are the sections of its codeword
 pub walk-word : (c1 c2 c3 s8 b1 b2 s16 b3 : ℕ) → openingOf c1 ≡ From s8 b1 → passageOf s8 c2 ≡ Along b2 s16 → closingOf s16 c3 ≡ By b3
-    → wordOf columns (label s8 b1 b2 b3) ≡ c1 + 256 * c2 + 65536 * c3
+    → codewordOf columns (label s8 b1 b2 b3) ≡ c1 + 256 * c2 + 65536 * c3
 walk-word c1 c2 c3 s8 b1 b2 s16 b3 e f g =
     let p = opening-iff c1 s8 b1 .0 (ap openingSays e) in
     let q = passage-iff s8 c2 b2 s16 .0 (ap passageSays f) in

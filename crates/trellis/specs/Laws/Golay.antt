@@ -8,10 +8,10 @@ use Prim.Native.Nat.{ℕ, _+_, _*_, _%_, _^_, _<_}
 use native.Mathlib.Nat.{mod-eq-of-lt, mul-one}
 use native.Mathlib.Omega.{arith}
 use lib.Dec.{T, eqb, eqb→eq}
-use Rattle.laws.specs.Bits.{weight}
-use Rattle.laws.specs.Lists.{tab}
-use Rattle.laws.specs.Tables.{every2, at2}
-use Rattle.trellis.specs.Code.{wordOf, columns}
+use Rattle.laws.specs.Words.{weight}
+use Rattle.laws.specs.Words.{tab}
+use Rattle.laws.specs.Laws.Tables.{every2, at2}
+use Rattle.trellis.specs.Code.{codewordOf, columns}
 use Rattle.trellis.specs.Trio.{octad1, octad2, octad3, order, places}
 use Rattle.trellis.specs.Laws.Code.{label-low}
 use Rattle.trellis.specs.Laws.Linear.{compose, powers, powers-word, word-below}
@@ -33,14 +33,14 @@ extended c = c + 2 ^ 23 * (weight 23 c % 2)
 -- the codeword of a message: the product m(x) g(x) over two elements, which is the exclusive-or of the shifts at the
 -- set bits of m, extended
 abbrev pub golayOf : ℕ → ℕ
-golayOf m = extended (wordOf shifts m)
+golayOf m = extended (codewordOf shifts m)
 
 -- ---- to trio order: the bit of coordinate i goes to the place of i
 unfoldable pub moves : List ℕ
 moves = map (λ (j : ℕ). 2 ^ j) places
 
 abbrev pub inTrio : ℕ → ℕ
-inTrio w = wordOf moves w
+inTrio w = codewordOf moves w
 
 -- ---- the extended shifts span it
 extendedShifts : List ℕ
@@ -53,7 +53,7 @@ all-span : T (every2 spans 0 (wordsOf shifts) (wordsOf extendedShifts))
 unfolding spans shifts extendedShifts tab
 all-span = tt
 
-spanned : (m : ℕ) → m < 4096 → golayOf m ≡ wordOf extendedShifts m
+spanned : (m : ℕ) → m < 4096 → golayOf m ≡ codewordOf extendedShifts m
 unfolding spans shifts extendedShifts tab
 spanned m h =
     ap extended (sym (words-at shifts m h))
@@ -68,37 +68,37 @@ labels = 0x82c ∷ 0x86c ∷ 0x864 ∷ 0x834 ∷ 0x814 ∷ 0x89d ∷ 0x9e7 ∷ 0
 messages : List ℕ
 messages = 0x7d6 ∷ 0x432 ∷ 0xbbf ∷ 0x006 ∷ 0x00f ∷ 0x018 ∷ 0x003 ∷ 0x7e0 ∷ 0x440 ∷ 0xb40 ∷ 0x9a0 ∷ 0xba0 ∷ []
 
-shifts-in : map inTrio (map extended shifts) ≡ map (wordOf columns) labels
+shifts-in : map inTrio (map extended shifts) ≡ map (codewordOf columns) labels
 unfolding labels shifts moves columns order places tab
 shifts-in = refl
 
-back : map (wordOf labels) messages ≡ powers 0 12
+back : map (codewordOf labels) messages ≡ powers 0 12
 unfolding labels messages
 back = refl
 
-at-label : (m : ℕ) → m < 4096 → wordOf columns (wordOf labels m) ≡ inTrio (golayOf m)
+at-label : (m : ℕ) → m < 4096 → codewordOf columns (codewordOf labels m) ≡ inTrio (golayOf m)
 unfolding extendedShifts
 at-label m h =
     compose columns labels m
-    ∙ ap (λ (cs : List ℕ). wordOf cs m) (sym shifts-in)
+    ∙ ap (λ (cs : List ℕ). codewordOf cs m) (sym shifts-in)
     ∙ sym (compose moves extendedShifts m)
     ∙ ap inTrio (sym (spanned m h))
 
 -- ---- each codeword of golay.rs is one of the columns' in trio order
-pub golay-in : (m : ℕ) → m < 4096 → (x : ℕ) × (x < 4096) × (wordOf columns x ≡ inTrio (golayOf m))
+pub golay-in : (m : ℕ) → m < 4096 → (x : ℕ) × (x < 4096) × (codewordOf columns x ≡ inTrio (golayOf m))
 unfolding labels
-golay-in m h = (wordOf labels m, word-below 12 labels tt m, at-label m h)
+golay-in m h = (codewordOf labels m, word-below 12 labels tt m, at-label m h)
 
 -- ---- and each of the columns' is one of golay.rs
-pub golay-out : (x : ℕ) → x < 4096 → (m : ℕ) × (m < 4096) × (inTrio (golayOf m) ≡ wordOf columns x)
+pub golay-out : (x : ℕ) → x < 4096 → (m : ℕ) × (m < 4096) × (inTrio (golayOf m) ≡ codewordOf columns x)
 unfolding messages
 golay-out x h =
     let lt = word-below 12 messages tt x in (
-      wordOf messages x,
+      codewordOf messages x,
       lt,
-      sym (at-label (wordOf messages x) lt)
-          ∙ ap (wordOf columns)
-          (compose labels messages x ∙ ap (λ (cs : List ℕ). wordOf cs x) back ∙ powers-word 12 0 x
+      sym (at-label (codewordOf messages x) lt)
+          ∙ ap (codewordOf columns)
+          (compose labels messages x ∙ ap (λ (cs : List ℕ). codewordOf cs x) back ∙ powers-word 12 0 x
           ∙ mul-one (x % 4096) ∙ mod-eq-of-lt h),
     )
 

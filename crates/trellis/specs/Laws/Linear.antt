@@ -11,9 +11,9 @@ use lib.Dec.{T, ltb, ltb→lt}
 use lib.ListN.{length}
 use lib.Pow.{pow-pos, pow-lt, field, mod-pow-add, mod-mod-pow}
 use lib.Bits.{bitXor, xor-lt, xor-comm, xor-shifted}
-use Rattle.laws.specs.Tests.{and-left, and-right}
+use Rattle.laws.specs.Laws.Tests.{and-left, and-right}
 use Rattle.trellis.specs.Laws.Xor.{xor-half, xor-odd, xor-swap, xor-times}
-use Rattle.trellis.specs.Code.{wordOf}
+use Rattle.trellis.specs.Code.{codewordOf}
 
 bit : (x : ℕ) → x % 2 < 2
 bit x = omega arith
@@ -25,27 +25,27 @@ bit-lt c (suc zero) n h k = omega arith
 bit-lt c (suc (suc b)) n h k = absurd (omega arith)
 
 -- the word of a sum is the sum of the words
-pub linear : (cs : List ℕ) (x y : ℕ) → wordOf cs (bitXor x y) ≡ bitXor (wordOf cs x) (wordOf cs y)
+pub linear : (cs : List ℕ) (x y : ℕ) → codewordOf cs (bitXor x y) ≡ bitXor (codewordOf cs x) (codewordOf cs y)
 linear [] x y = refl
 linear (c ∷ cs) x y =
-    ap₂ (λ (u v : ℕ). bitXor (c * u) (wordOf cs v)) (xor-odd x y) (xor-half x y)
+    ap₂ (λ (u v : ℕ). bitXor (c * u) (codewordOf cs v)) (xor-odd x y) (xor-half x y)
     ∙ ap₂ bitXor (xor-times c (x % 2) (y % 2) (bit x) (bit y)) (linear cs (x / 2) (y / 2))
-    ∙ xor-swap (c * (x % 2)) (c * (y % 2)) (wordOf cs (x / 2)) (wordOf cs (y / 2))
+    ∙ xor-swap (c * (x % 2)) (c * (y % 2)) (codewordOf cs (x / 2)) (codewordOf cs (y / 2))
 
-pub word-zero : (cs : List ℕ) → wordOf cs 0 ≡ 0
+pub word-zero : (cs : List ℕ) → codewordOf cs 0 ≡ 0
 word-zero [] = refl
 word-zero (c ∷ cs) = ap₂ bitXor (mul-zero c) (word-zero cs)
 
 -- ---- one map after another has the columns' words for its columns
-times-bit : (cs : List ℕ) (c b : ℕ) → b < 2 → wordOf cs (c * b) ≡ wordOf cs c * b
-times-bit cs c zero h = ap (wordOf cs) (mul-zero c) ∙ word-zero cs ∙ sym (mul-zero (wordOf cs c))
-times-bit cs c (suc zero) h = ap (wordOf cs) (mul-one c) ∙ sym (mul-one (wordOf cs c))
+times-bit : (cs : List ℕ) (c b : ℕ) → b < 2 → codewordOf cs (c * b) ≡ codewordOf cs c * b
+times-bit cs c zero h = ap (codewordOf cs) (mul-zero c) ∙ word-zero cs ∙ sym (mul-zero (codewordOf cs c))
+times-bit cs c (suc zero) h = ap (codewordOf cs) (mul-one c) ∙ sym (mul-one (codewordOf cs c))
 times-bit cs c (suc (suc b)) h = absurd (omega arith)
 
-pub compose : (bs cs : List ℕ) (x : ℕ) → wordOf bs (wordOf cs x) ≡ wordOf (map (wordOf bs) cs) x
+pub compose : (bs cs : List ℕ) (x : ℕ) → codewordOf bs (codewordOf cs x) ≡ codewordOf (map (codewordOf bs) cs) x
 compose bs [] x = word-zero bs
 compose bs (c ∷ cs) x =
-    linear bs (c * (x % 2)) (wordOf cs (x / 2)) ∙ ap₂ bitXor (times-bit bs c (x % 2) (bit x)) (compose bs cs (x / 2))
+    linear bs (c * (x % 2)) (codewordOf cs (x / 2)) ∙ ap₂ bitXor (times-bit bs c (x % 2) (bit x)) (compose bs cs (x / 2))
 
 -- ---- the columns 1, 2, 4, .. give the number itself, as far as they go
 abbrev pub powers : ℕ → ℕ → List ℕ
@@ -59,7 +59,7 @@ split-times q r P =
 low-digit : (x n : ℕ) → x / 2 % 2 ^ n * 2 + x % 2 ≡ x % 2 ^ suc n
 low-digit x n = sym (ap (λ (m : ℕ). x % 2 ^ m) (sym (add-one n)) ∙ mod-pow-add x n 1)
 
-pub powers-word : (n k x : ℕ) → wordOf (powers k n) x ≡ x % 2 ^ n * 2 ^ k
+pub powers-word : (n k x : ℕ) → codewordOf (powers k n) x ≡ x % 2 ^ n * 2 ^ k
 powers-word zero k x = sym (ap (λ (m : ℕ). m * 2 ^ k) (mod-one x) ∙ zero-mul (2 ^ k))
 powers-word (suc n) k x =
     ap (λ (w : ℕ). bitXor (2 ^ k * (x % 2)) w) (powers-word n (suc k) (x / 2))
@@ -70,10 +70,10 @@ powers-word (suc n) k x =
     ∙ ap (λ (m : ℕ). m * 2 ^ k) (low-digit x n)
 
 -- ---- bits past the last column say nothing
-pub word-low : (cs : List ℕ) (x : ℕ) → wordOf cs (x % 2 ^ length cs) ≡ wordOf cs x
+pub word-low : (cs : List ℕ) (x : ℕ) → codewordOf cs (x % 2 ^ length cs) ≡ codewordOf cs x
 word-low [] x = refl
 word-low (c ∷ cs) x =
-    ap₂ (λ (b y : ℕ). bitXor (c * b) (wordOf cs y)) odd half ∙ ap (λ (w : ℕ). bitXor (c * (x % 2)) w) (word-low cs (x / 2))
+    ap₂ (λ (b y : ℕ). bitXor (c * b) (codewordOf cs y)) odd half ∙ ap (λ (w : ℕ). bitXor (c * (x % 2)) w) (word-low cs (x / 2))
   where
     odd : x % 2 ^ suc (length cs) % 2 ≡ x % 2
     odd = ap (λ (m : ℕ). x % 2 ^ m % 2) (sym (add-one (length cs))) ∙ mod-mod-pow x (length cs) 1
@@ -86,9 +86,9 @@ abbrev pub allBelow : ℕ → List ℕ → Bool
 allBelow n [] = true
 allBelow n (c ∷ cs) = ltb c (2 ^ n) && allBelow n cs
 
-pub word-below : (n : ℕ) (cs : List ℕ) → T (allBelow n cs) → (x : ℕ) → wordOf cs x < 2 ^ n
+pub word-below : (n : ℕ) (cs : List ℕ) → T (allBelow n cs) → (x : ℕ) → codewordOf cs x < 2 ^ n
 word-below n [] t x = pow-pos n
 word-below n (c ∷ cs) t x =
-    xor-lt n (c * (x % 2)) (wordOf cs (x / 2))
+    xor-lt n (c * (x % 2)) (codewordOf cs (x / 2))
     (bit-lt c (x % 2) n (ltb→lt c (2 ^ n) (and-left (ltb c (2 ^ n)) (allBelow n cs) t)) (bit x))
     (word-below n cs (and-right (ltb c (2 ^ n)) (allBelow n cs) t) (x / 2))

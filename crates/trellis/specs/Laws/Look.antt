@@ -9,8 +9,9 @@ use native.Mathlib.Omega.{arith}
 use borrow.Author.Tests.{lt-ltb, le-ltb, ltb-true, ltb-false}
 use lib.Dec.{T, eqb, ltb, eqb→eq}
 use lib.ListN.{length, getD}
-use Rattle.laws.specs.Lists.{seek, seek-le, seek-holds, seek-first}
-use Rattle.laws.specs.Tables.{every, at}
+use Rattle.laws.specs.Words.{seek}
+use Rattle.laws.specs.Laws.Lists.{seek-le, seek-holds, seek-first}
+use Rattle.laws.specs.Laws.Tables.{every, at}
 use Rattle.trellis.specs.Trellis.{lookUp}
 
 pub seek-none : (c : ℕ) (xs : List ℕ) → ((i : ℕ) → i < length xs → getD xs i 0 ≡ c → ⊥) → seek c xs ≡ length xs

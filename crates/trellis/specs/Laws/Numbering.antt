@@ -3,8 +3,8 @@
 use mathlib.Core.Path.{_≡_, _∙_, subst, sym, ap}
 use Prim.Native.Nat.{ℕ, zero, suc, _<_, _≤_}
 use native.Mathlib.Omega.{arith}
-use Rattle.trellis.specs.Code.{wordOf, columns}
-use Rattle.trellis.specs.Cuts.{Numbered}
+use Rattle.trellis.specs.Code.{codewordOf, columns}
+use Rattle.trellis.specs.Sharing.{Numbered}
 
 -- numbers that ascend below n do not fall behind
 climbs : (n : ℕ) (p : ℕ → ℕ) → ((s t : ℕ) → s < t → t < n → p s < p t) → (s : ℕ) → s < n → s ≤ p s
@@ -23,27 +23,27 @@ module _ (cut : ℕ) (f g : ℕ → ℕ) (A : Numbered cut f) (B : Numbered cut 
       (B .shared (B .least (turned s)) (A .least s) .0 (B .own (turned s) (B .state-lt (A .least s))))
       ∙ A .own s h
 
-  same-least : (s : ℕ) → s < 64 → wordOf columns (A .least s) ≡ wordOf columns (B .least (turned s))
+  same-least : (s : ℕ) → s < 64 → codewordOf columns (A .least s) ≡ codewordOf columns (B .least (turned s))
   unfolding turned
   same-least s h =
       omega (
         arith,
         B .smallest (A .least s),
-        subst (λ (t : ℕ). wordOf columns (A .least t) ≤ wordOf columns (B .least (turned s))) (back s h) (A .smallest (B .least (turned s))),
+        subst (λ (t : ℕ). codewordOf columns (A .least t) ≤ codewordOf columns (B .least (turned s))) (back s h) (A .smallest (B .least (turned s))),
       )
 
   turned-up : (s t : ℕ) → s < t → t < 64 → turned s < turned t
   unfolding turned
   turned-up s t h k = omega (arith, not-after, not-same)
     where
-      ahead : wordOf columns (B .least (turned s)) < wordOf columns (B .least (turned t))
+      ahead : codewordOf columns (B .least (turned s)) < codewordOf columns (B .least (turned t))
       ahead = omega (arith, A .ascending s t h k, same-least s (omega arith), same-least t k)
 
       not-after : turned t < turned s → ⊥
       not-after l = omega (arith, ahead, B .ascending (turned t) (turned s) l (B .state-lt (A .least s)))
 
       not-same : turned t ≡ turned s → ⊥
-      not-same e = omega (arith, ahead, ap (λ (n : ℕ). wordOf columns (B .least n)) e)
+      not-same e = omega (arith, ahead, ap (λ (n : ℕ). codewordOf columns (B .least n)) e)
 
 pub one-numbering : (cut : ℕ) (f g : ℕ → ℕ) → Numbered cut f → Numbered cut g → (x : ℕ) → f x ≡ g x
 unfolding turned

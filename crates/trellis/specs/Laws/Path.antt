@@ -12,10 +12,10 @@ use lib.ListN.{length, getD, take, drop, length-take, length-drop, drop-of-lengt
 use lib.Seq.{getD-take, getD-drop, length-take-le, take-nil}
 use lib.Pow.{pow-pos}
 use lib.Bits.{bitXor}
-use Rattle.laws.specs.Tests.{and-left, and-right, upto, below}
-use Rattle.laws.specs.Tables.{every}
-use Rattle.laws.specs.Trees.{Tree, build, get, get-build}
-use Rattle.trellis.specs.Code.{wordOf, columns, first, second, third}
+use Rattle.laws.specs.Laws.Tests.{and-left, and-right, upto, below}
+use Rattle.laws.specs.Laws.Tables.{every}
+use Rattle.laws.specs.Laws.Trees.{Tree, build, get, get-build}
+use Rattle.trellis.specs.Code.{codewordOf, columns, first, second, third}
 use Rattle.trellis.specs.Tables.{prefixes, middles, nexts, suffixes}
 use Rattle.trellis.specs.Trellis.{row, prefixOf, middleOf, nextOf, suffixOf, path, s8Of, b1Of, b2Of, b3Of, s16Of}
 use Rattle.trellis.specs.Laws.Linear.{allBelow}
@@ -130,12 +130,12 @@ tree-path x =
       read 7 2 suffixes (s16Of x) (b3Of x) (omega arith) (omega (arith, next-lt (s8Of x) (b2Of x))),
     )
 
-low-at : (x : ℕ) → x < 4096 → wordOf columns x ≡ path (s8Of x) (b1Of x) (b2Of x) (b3Of x)
+low-at : (x : ℕ) → x < 4096 → codewordOf columns x ≡ path (s8Of x) (b1Of x) (b2Of x) (b3Of x)
 unfolding onPath
-low-at x h = eqb→eq (wordOf columns x) (treePath x) (at-word onPath all-on-path x h) ∙ tree-path x
+low-at x h = eqb→eq (codewordOf columns x) (treePath x) (at-word onPath all-on-path x h) ∙ tree-path x
 
 -- for every label: bits past the twelfth change neither side
-pub path-at : (x : ℕ) → wordOf columns x ≡ path (s8Of x) (b1Of x) (b2Of x) (b3Of x)
+pub path-at : (x : ℕ) → codewordOf columns x ≡ path (s8Of x) (b1Of x) (b2Of x) (b3Of x)
 path-at x =
     sym (label-low x) ∙ low-at (x % 4096) (mod-lt x (zero-lt-suc 4095))
     ∙ ap₂ (λ (s b : ℕ). path s b (b2Of (x % 4096)) (b3Of (x % 4096))) (omega arith) (omega arith)
@@ -146,13 +146,13 @@ sections : (a b c : ℕ) → a < 256 → b < 256 → (first (a + 256 * b + 65536
     × (third (a + 256 * b + 65536 * c) ≡ c)
 sections a b c ha hb = (omega arith, omega arith, omega arith)
 
-pub first-at : (x : ℕ) → first (wordOf columns x) ≡ prefixOf (s8Of x) (b1Of x)
+pub first-at : (x : ℕ) → first (codewordOf columns x) ≡ prefixOf (s8Of x) (b1Of x)
 first-at x = ap first (path-at x) ∙ sections _ _ _ (prefix-lt (s8Of x) (b1Of x)) (middle-lt (s8Of x) (b2Of x)) .0
 
-pub second-at : (x : ℕ) → second (wordOf columns x) ≡ middleOf (s8Of x) (b2Of x)
+pub second-at : (x : ℕ) → second (codewordOf columns x) ≡ middleOf (s8Of x) (b2Of x)
 second-at x = ap second (path-at x) ∙ sections _ _ _ (prefix-lt (s8Of x) (b1Of x)) (middle-lt (s8Of x) (b2Of x)) .1
 
-pub third-at : (x : ℕ) → third (wordOf columns x) ≡ suffixOf (s16Of x) (b3Of x)
+pub third-at : (x : ℕ) → third (codewordOf columns x) ≡ suffixOf (s16Of x) (b3Of x)
 third-at x = ap third (path-at x) ∙ sections _ _ _ (prefix-lt (s8Of x) (b1Of x)) (middle-lt (s8Of x) (b2Of x)) .2
 
 -- ---- the two bytes of a state: ascending, and each the other's complement

@@ -5,10 +5,11 @@ use Prim.Native.Nat.{ℕ, _<_}
 use lib.Dec.{T, eqb, ltb, eqb→eq, ltb→lt}
 use lib.ListN.{length, getD}
 use lib.Bits.{bitAnd, bitOr}
-use Rattle.laws.specs.Tests.{split4, upto, below}
-use Rattle.laws.specs.Lists.{tab, tab-length, seek}
-use Rattle.laws.specs.Bits.{weight}
-use Rattle.trellis.specs.Code.{wordOf, columns}
+use Rattle.laws.specs.Laws.Tests.{split4, upto, below}
+use Rattle.laws.specs.Words.{tab, seek}
+use Rattle.laws.specs.Laws.Lists.{tab-length}
+use Rattle.laws.specs.Words.{weight}
+use Rattle.trellis.specs.Code.{codewordOf, columns}
 use Rattle.trellis.specs.Trio.{octad1, octad2, octad3, order, places}
 
 pub order-length : length order ≡ 24
@@ -59,6 +60,6 @@ pub octads-cover : bitOr octad1 (bitOr octad2 octad3) ≡ 0xffffff
 octads-cover = refl
 
 -- in trio order the octads are the three whole sections, and these are codewords
-pub octads-in : (wordOf columns 64 ≡ 0x0000ff) × (wordOf columns 1920 ≡ 0x00ff00) × (wordOf columns 2048 ≡ 0xff0000)
+pub octads-in : (codewordOf columns 64 ≡ 0x0000ff) × (codewordOf columns 1920 ≡ 0x00ff00) × (codewordOf columns 2048 ≡ 0xff0000)
 unfolding columns
 octads-in = (refl, refl, refl)

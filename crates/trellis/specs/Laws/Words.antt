@@ -8,9 +8,9 @@ use native.Mathlib.Omega.{arith}
 use lib.Dec.{T}
 use lib.ListN.{length, getD}
 use lib.Bits.{bitXor}
-use Rattle.laws.specs.Tables.{every, at}
-use Rattle.laws.specs.Lists.{filled}
-use Rattle.trellis.specs.Code.{wordOf, columns, codewords}
+use Rattle.laws.specs.Laws.Tables.{every, at}
+use Rattle.laws.specs.Laws.Lists.{filled}
+use Rattle.trellis.specs.Code.{codewordOf, columns, codewords}
 
 -- each word, and after it the word with c
 abbrev weave : ℕ → List ℕ → List ℕ
@@ -43,7 +43,7 @@ pub words-length : (cs : List ℕ) → length (wordsOf cs) ≡ 2 ^ length cs
 words-length [] = refl
 words-length (c ∷ cs) = weave-length c (wordsOf cs) ∙ ap (λ (n : ℕ). 2 * n) (words-length cs) ∙ omega (arith, pow-suc 2 (length cs))
 
-pub words-at : (cs : List ℕ) (x : ℕ) → x < 2 ^ length cs → getD (wordsOf cs) x 0 ≡ wordOf cs x
+pub words-at : (cs : List ℕ) (x : ℕ) → x < 2 ^ length cs → getD (wordsOf cs) x 0 ≡ codewordOf cs x
 words-at [] zero h = refl
 words-at [] (suc x) h = absurd (omega arith)
 words-at (c ∷ cs) x h =
@@ -56,10 +56,10 @@ words = wordsOf columns
 
 pub codewords-are : codewords ≡ words
 unfolding codewords words columns
-codewords-are = sym (filled ℕ 0 4096 (wordOf columns) (wordsOf columns) (words-length columns) (words-at columns))
+codewords-are = sym (filled ℕ 0 4096 (codewordOf columns) (wordsOf columns) (words-length columns) (words-at columns))
 
 -- a test that passes along the words passes at each label
-pub at-word : (f : ℕ → ℕ → Bool) → T (every f 0 words) → (x : ℕ) → x < 4096 → T (f x (wordOf columns x))
+pub at-word : (f : ℕ → ℕ → Bool) → T (every f 0 words) → (x : ℕ) → x < 4096 → T (f x (codewordOf columns x))
 unfolding words columns
 at-word f t x h =
     subst (λ (w : ℕ). T (f x w)) (words-at columns x h) (at f (wordsOf columns) t x (subst (λ (n : ℕ). x < n) (sym (words-length columns)) h))

@@ -5,7 +5,7 @@ use native.Mathlib.Nat.{one-mul, mod-eq-of-lt}
 use borrow.Author.Needs.{needs}
 use lib.Bits.{and-mask, mask-lt}
 use lib.Pow.{pow-pos, pow-lt}
-use Rattle.word.specs.Word.{cut}
+use Rattle.word.specs.Word.{fieldAt}
 use Rattle.word.proofs.get.Statement.{statement}
 use Rattle.word.proofs.get.Tie as tie
 
@@ -31,7 +31,7 @@ sub-result c =
     rw (one-shl (s .args .slot .width) (s .pre .1)) (pow-pos (s .args .slot .width))
 
 returns : tie.Need-returns
-unfolding cut
+unfolding fieldAt
 returns c =
     let s = c .before .before in
     let one = one-shl (s .args .slot .width) (s .pre .1) in

@@ -6,7 +6,8 @@ use borrow.Author.Needs.{needs}
 use borrow.Author.Tests.{lt-ltb, le-ltb}
 use lib.ListN.{length, drop}
 use Rattle.page.specs.Reader.{readingOf}
-use Rattle.yultarvas.specs.Calls.{numIn, wordsIn, wordsOver}
+use Rattle.page.specs.Answer.{numIn, wordsIn}
+use Rattle.yultarvas.specs.Calls.{wordsOver}
 use Rattle.yultarvas.proofs.Answers.{left-old}
 use Rattle.yultarvas.proofs.Pages.{no-page, Holds, some-page}
 use Rattle.yultarvas.proofs.yultarvas_parse_page.Statement.{statement}

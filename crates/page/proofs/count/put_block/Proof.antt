@@ -12,7 +12,7 @@ use lib.Seq.{sets}
 use mir.Syntax.{w32}
 use mir.Val.{SFits, toZ, ofZ}
 use mir.Facts.{toZ-ofZ}
-use Rattle.laws.specs.Lists.{store-next, store-end}
+use Rattle.laws.specs.Laws.Lists.{store-next, store-end}
 use Rattle.tetra.specs.Demand2.{coordinate-small}
 use Rattle.page.specs.Counts.{countOf, blockCounts}
 use Rattle.page.proofs.Counting.{small-fits}

@@ -2,8 +2,9 @@
 use borrow.Author.Needs.{needs}
 use mathlib.Core.Path.{_≡_, sym, _∙_}
 use mathlib.Core.Bool.{true, false}
+use Rattle.text.specs.Lines.{begins}
 use Rattle.page.specs.Page.{formatLine}
-use Rattle.page.specs.Reader.{begins, formatAt}
+use Rattle.page.specs.Reader.{formatAt}
 use Rattle.page.proofs.line.format_line.Statement.{statement}
 use Rattle.page.proofs.line.format_line.Tie as tie
 

@@ -4,9 +4,10 @@ use borrow.Author.Tests.{not-true, not-false, eq-eqb, ne-eqb}
 use mathlib.Core.Path.{_≡_, sym, _∙_, ap}
 use mathlib.Core.Bool.{true, false}
 use lib.ListN.{drop}
-use Rattle.page.specs.Text.{bytes}
-use Rattle.page.specs.Reader.{begins, hexAt, wordLineAt}
-use Rattle.page.proofs.Reading.{key-fits, tail}
+use Rattle.text.specs.Text.{bytes}
+use Rattle.text.specs.Lines.{begins, hexAt}
+use Rattle.text.specs.Laws.Lines.{key-fits, tail}
+use Rattle.page.specs.Reader.{wordLineAt}
 use Rattle.page.proofs.line.word_line.Statement.{statement}
 use Rattle.page.proofs.line.word_line.Tie as tie
 

@@ -2,7 +2,8 @@
 use mathlib.Core.Path.{sym, _∙_}
 use native.Mathlib.Omega.{arith}
 use borrow.Author.Needs.{needs}
-use Rattle.laws.specs.Order.{lexLe, pick3-less, pick3-same, pick3-more}
+use Rattle.laws.specs.Words.{lexLe}
+use Rattle.laws.specs.Laws.Order.{pick3-less, pick3-same, pick3-more}
 use Rattle.rank.specs.Vector.{cost}
 use Rattle.rank.proofs.Bound.holds.Statement.{statement}
 use Rattle.rank.proofs.Bound.holds.Tie as tie

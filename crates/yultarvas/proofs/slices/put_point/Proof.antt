@@ -11,7 +11,7 @@ use mir.Facts.{toZ-ofZ}
 use lib.IntN.{ℤ, pos}
 use lib.ListN.{length, getD, drop, length-set}
 use lib.Seq.{sets}
-use Rattle.laws.specs.Lists.{store-next, store-end}
+use Rattle.laws.specs.Laws.Lists.{store-next, store-end}
 use Rattle.yultarvas.proofs.Fronts.{put}
 use Rattle.yultarvas.proofs.slices.put_point.Statement.{statement}
 use Rattle.yultarvas.proofs.slices.put_point.Tie as tie

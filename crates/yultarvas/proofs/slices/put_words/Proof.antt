@@ -7,7 +7,7 @@ use native.Mathlib.Omega.{arith}
 use borrow.Author.Needs.{needs}
 use lib.ListN.{length, getD, take, drop, length-set}
 use lib.Seq.{sets, length-take-le, getD-take}
-use Rattle.laws.specs.Lists.{store-next, store-end}
+use Rattle.laws.specs.Laws.Lists.{store-next, store-end}
 use Rattle.yultarvas.proofs.Fronts.{put}
 use Rattle.yultarvas.proofs.slices.put_words.Statement.{statement}
 use Rattle.yultarvas.proofs.slices.put_words.Tie as tie

@@ -6,7 +6,7 @@ use native.Mathlib.Omega.{arith}
 use borrow.Author.Needs.{needs}
 use lib.ListN.{length, getD, length-set}
 use lib.Ieee.{Float, nan}
-use Rattle.laws.specs.Lists.{filled-more}
+use Rattle.laws.specs.Laws.Lists.{filled-more}
 use Rattle.yultarvas.proofs.Fronts.{taken}
 use Rattle.yultarvas.proofs.slices.samples_of.Statement.{statement}
 use Rattle.yultarvas.proofs.slices.samples_of.Tie as tie

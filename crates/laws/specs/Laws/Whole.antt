@@ -1,0 +1,36 @@
+-- Whole numbers with a sign: quotient and remainder from the floor, magnitudes. Assumes nothing.
+use mathlib.Core.Path.{_≡_, refl, _∙_}
+use mathlib.Core.Bool.{Bool, true, false, cond}
+use Prim.Native.Nat.{ℕ, suc, _+_, _-_, _/_, _%_, _<_, _≤_}
+use native.Mathlib.Omega.{arith}
+use borrow.Author.Tests.{ltb-true, ltb-false}
+use lib.Dec.{ltb}
+use lib.IntN.{ℤ, pos, negsuc, subℕ, _+ℤ_}
+use Rattle.laws.specs.Words.{modZ}
+
+-- ---- remainders
+pub mod2-lt : (y : ℤ) → modZ y 2 < 2
+mod2-lt (pos n) = omega arith
+mod2-lt (negsuc n) = omega arith
+
+pub mod4-lt : (y : ℤ) → modZ y 4 < 4
+mod4-lt (pos n) = omega arith
+mod4-lt (negsuc n) = omega arith
+
+-- what holds of both kinds of difference holds of a - b
+pub sub-by : (P : ℤ → Type 0) (a b : ℕ) → (a < b → P (negsuc (b - suc a))) → (b ≤ a → P (pos (a - b))) → P (subℕ a b)
+sub-by P a b f g = go (ltb a b) refl
+  where
+    go : (t : Bool) → ltb a b ≡ t → P (cond t (negsuc (b - suc a)) (pos (a - b)))
+    go true e = f (ltb-true a b e)
+    go false e = g (ltb-false a b e)
+
+mod-sub : (a b : ℕ) → modZ (subℕ a b) 2 ≡ (a + b) % 2
+mod-sub a b = sub-by (λ (z : ℤ). modZ z 2 ≡ (a + b) % 2) a b (λ h. omega arith) (λ h. omega arith)
+
+-- the parity of a sum
+pub parity-add : (a b : ℤ) → modZ (a +ℤ b) 2 ≡ (modZ a 2 + modZ b 2) % 2
+parity-add (pos a) (pos b) = omega arith
+parity-add (pos a) (negsuc b) = mod-sub a (suc b) ∙ omega arith
+parity-add (negsuc a) (pos b) = mod-sub b (suc a) ∙ omega arith
+parity-add (negsuc a) (negsuc b) = omega arith

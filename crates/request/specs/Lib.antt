@@ -1,0 +1,2 @@
+-- the words of a request line: what a reader has to believe
+pub mod Words

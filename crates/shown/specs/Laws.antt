@@ -1,0 +1,2 @@
+-- document 01's example
+pub mod Examples
