@@ -15,8 +15,8 @@
  * stack, so any number of threads may call at once, as long as they do not lend the same memory for writing.
  * No call allocates or locks; of the host it uses memcpy, memmove and memset alone.
  *
- * Stack. yultarvas_encode, yultarvas_encode_with and yultarvas_encode_at_scale take up to 145 KB of stack
- * (144,704 bytes on aarch64, 136,904 on x86-64), the other calls up to 21 KB. No theorem bounds the stack:
+ * Stack. yultarvas_encode, yultarvas_encode_with and yultarvas_encode_at_scale take up to 120 KB of stack
+ * (119,920 bytes on aarch64), the other calls up to 19 KB. No theorem bounds the stack:
  * tools/stack.sh measures it. Have YULTARVAS_STACK bytes left.
  *
  * Doubles. The contracts are over IEEE 754 doubles, rounded to nearest with ties to even, subnormal numbers

@@ -9,9 +9,8 @@
 //! numbers kept, as a thread starts. A program that calls C code which sets another rounding mode or
 //! flush-to-zero gets other answers with no refusal; [`environment`] tells.
 //!
-//! **Stack.** [`encode`], [`encode_with`] and [`encode_at_scale`] take up to 145 KB of stack (144,704 bytes
-//! on aarch64, 136,904 on x86-64: measured by tools/stack.sh, no theorem bounds it): more than some threads
-//! have. Have [`STACK`] bytes left.
+//! **Stack.** [`encode`], [`encode_with`] and [`encode_at_scale`] take up to 120 KB of stack (119,920 bytes
+//! on aarch64: measured by tools/stack.sh, no theorem bounds it): more than some threads have. Have [`STACK`] bytes left.
 //!
 //! **Threads.** No call keeps anything, allocates or locks: any number of threads may call at once.
 //!
