@@ -6,9 +6,9 @@
     format.py --oracle ORACLE    also ORACLE, a program over the Rust that answers the same request lines as ask
 
 From the environment:
-    ASK      the program ask; target/bin/ask where it is not set (`rt check ask` builds it, for x86-64 Linux)
-    UNPAGE   the program unpage; target/bin/unpage where it is not set (`rt check unpage` builds it)
-    RUN      the command that runs them, as an emulator and a loader with its options; none where it is not set
+    ASK      the program ask; target/bin/ask, run by tools/run.sh, where it is not set (`rt check ask` builds it)
+    UNPAGE   the program unpage; target/bin/unpage, likewise (`rt check unpage` builds it)
+    RUN      the command that runs a program, as an emulator and a loader with its options, where it needs one
 
 Asked are 10,000 words, their 10,000 points, 10,000 damaged points, 2,200 blocks of samples (their numbers, lower scales and scores, and that
 encode keeps the better of its two scales), and 386 pages, good and damaged. It ends with status 1 where an answer differs.
@@ -26,10 +26,16 @@ sys.dont_write_bytecode = True  # a run leaves nothing beside the tests
 import format_decoder as own  # noqa: E402
 
 ROOT = os.path.dirname(os.path.dirname(os.path.abspath(__file__)))
-RUN = os.environ.get("RUN", "").split()
 ASK = os.environ.get("ASK", os.path.join(ROOT, "target", "bin", "ask"))
 UNPAGE = os.environ.get("UNPAGE", os.path.join(ROOT, "target", "bin", "unpage"))
 failed = []
+
+
+def command(name):
+    """The command that runs the program ask or unpage."""
+    if name.upper() in os.environ:
+        return os.environ.get("RUN", "").split() + [os.environ[name.upper()]]
+    return ["bash", os.path.join(ROOT, "tools", "run.sh"), name]
 
 
 def check(what, fine, say=""):
@@ -409,7 +415,7 @@ def pages(rng):
 def page_answers():
     texts = list(pages(random.Random(3)))
     wanted = [own.unpage(t) for t in texts]
-    got = [subprocess.run(RUN + [UNPAGE], input=t, stdout=subprocess.PIPE, check=False).stdout.decode() for t in texts]
+    got = [subprocess.run(command("unpage"), input=t, stdout=subprocess.PIPE, check=False).stdout.decode() for t in texts]
     same("unpage: pages", texts, wanted, got)
     good = sum(w != "refused=9\n" for w in wanted)
     check(f"pages: {good} good ones, {len(texts) - good} refused", good >= 100 and len(texts) - good > 100)
@@ -460,7 +466,7 @@ def main(arguments):
             print(f"format.py: there is no {path}", file=sys.stderr)
         return 2
     document()
-    programs = [("ask", RUN + [ASK])] + ([("oracle", [given["--oracle"]])] if given["--oracle"] else [])
+    programs = [("ask", command("ask"))] + ([("oracle", [given["--oracle"]])] if given["--oracle"] else [])
     words_and_points(programs)
     samples(programs)
     page_answers()

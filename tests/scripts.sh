@@ -6,10 +6,9 @@
 set -euo pipefail
 . "$(dirname "$0")/../tools/common.sh"
 help_if_asked "$@"
-if [ $# -ne 0 ]; then wrong "it wants no argument"; fi
+no_arguments "$@"
 
-work=$(mktemp -d)
-trap 'rm -rf "$work"' EXIT
+scratch
 mkdir -p "$work/bin" "$work/repo/target/bin" "$work/repo/edits/word"
 cp -r "$root/tools" "$root/tests" "$root/samples" "$work/repo/"
 (cd "$root" && cp --parents crates/*/stdin crates/*/stdout "$work/repo/")

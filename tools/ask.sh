@@ -3,7 +3,7 @@
 # input, one on each line.
 #   bash tools/ask.sh decode W           the point of a word, which is 1 to 16 hex digits
 #   bash tools/ask.sh point C0 .. C23    the word of a point, whose coordinates are decimal
-#   bash tools/ask.sh REQUEST ..         another request: the head of crates/ask/src/main.rt lists them
+#   bash tools/ask.sh REQUEST ..         another request: the head of crates/answers/src/lib.rt lists them
 #   bash tools/ask.sh <REQUESTS
 # A request that is refused gives refused= and the number. What is proved is said on standard error; the first
 # time takes minutes, later ones about a second.

@@ -10,20 +10,15 @@
 set -euo pipefail
 . "$(dirname "$0")/common.sh"
 help_if_asked "$@"
-if [ $# -ne 0 ]; then wrong "it takes no argument"; fi
-if [ -n "${YULTARVAS_LIB:-}" ]; then YULTARVAS_LIB=$(cd "$YULTARVAS_LIB" && pwd); fi
-cd "$(dirname "$0")/.."
+no_arguments "$@"
 export CC=${CC:-cc}
 for tool in cargo "$CC"; do
     command -v "$tool" >/dev/null || { echo "bindings.sh: no $tool on the path" >&2; exit 2; }
 done
-if [ -z "${YULTARVAS_LIB:-}" ]; then
-    bash tools/native.sh yultarvas
-    YULTARVAS_LIB=$PWD/target/native
-fi
+library
 export YULTARVAS_LIB
-work=$(mktemp -d)
-trap 'rm -rf "$work"' EXIT
+scratch
+cd "$root"
 
 echo "---- Rust"
 rust=(--offline --release --manifest-path bindings/rust/Cargo.toml)

@@ -23,7 +23,41 @@ help_if_asked() {
     fi
 }
 
-whole_number() { [[ $1 =~ ^(0|[1-9][0-9]{0,17})$ ]]; }
+no_arguments() {
+    if [ $# -ne 0 ]; then wrong "it takes no argument"; fi
+}
+
+# The arguments from the third on are $1 whole numbers, and $2 says $1 in a word.
+whole_numbers() {
+    local many=$1 word=$2 number
+    shift 2
+    if [ $# -ne "$many" ]; then wrong "it wants $word numbers"; fi
+    for number in "$@"; do
+        if ! [[ $number =~ ^(0|[1-9][0-9]{0,17})$ ]]; then wrong "$number is not a whole number"; fi
+    done
+}
+
+# The variable $1 of the environment names the command $2.
+names_program() {
+    if ! command -v "$2" >/dev/null; then wrong "$1 has to name a program"; fi
+}
+
+# Makes a folder for what the script writes on the way, which goes when the script ends.
+scratch() {
+    work=$(mktemp -d)
+    trap 'rm -rf "$work"' EXIT
+}
+
+# Sets YULTARVAS_LIB to a folder with a libyultarvas.a for this machine: the one that it names, or
+# target/native, where the library is then built.
+library() {
+    if [ -n "${YULTARVAS_LIB:-}" ]; then
+        YULTARVAS_LIB=$(cd "$YULTARVAS_LIB" && pwd)
+    else
+        bash "$root/tools/native.sh" yultarvas
+        YULTARVAS_LIB=$root/target/native
+    fi
+}
 
 # Proves and builds the program $1, with a line on standard error for each crate that had to be proved. All
 # that the toolchain says goes to a file.

@@ -14,14 +14,11 @@
 set -euo pipefail
 . "$(dirname "$0")/common.sh"
 help_if_asked "$@"
-if [ $# -ne 3 ]; then wrong "it wants three numbers"; fi
-for number in "$@"; do
-    if ! whole_number "$number"; then wrong "$number is not a whole number"; fi
-done
-if ! command -v "${ORACLE:-}" >/dev/null; then wrong "ORACLE has to name a program"; fi
+whole_numbers 3 three "$@"
+names_program ORACLE "${ORACLE:-}"
 seed=$1 parts=$2 turns=$3 kinds=${KINDS:-decode|point|scale|auto|lower|score}
 read -ra gen <<<"${GEN:-$ORACLE gen}"
-if ! command -v "${gen[0]}" >/dev/null; then wrong "GEN has to name a program"; fi
+names_program GEN "${gen[0]}"
 if [ -n "${ASK:-}" ]; then
     if [ ! -x "$ASK" ]; then wrong "ASK has to name a program"; fi
     read -ra ask <<<"${RUN:-}"

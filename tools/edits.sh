@@ -13,8 +13,7 @@ for name in "$@"; do
     if [ ! -d "$root/edits/$name" ]; then wrong "there is no edits/$name; there are: ${all[*]}"; fi
 done
 if [ $# -eq 0 ]; then set -- "${all[@]}"; fi
-work=$(mktemp -d)
-trap 'rm -rf "$work"' EXIT
+scratch
 cp -r "$root/crates" "$root/crates.txt" "$work/"
 if [ -d "$root/target" ]; then cp -r "$root/target" "$work/"; fi
 rm -rf "$work"/crates/*/must-fail

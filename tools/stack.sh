@@ -8,15 +8,10 @@
 set -euo pipefail
 . "$(dirname "$0")/common.sh"
 help_if_asked "$@"
-if [ $# -ne 0 ]; then wrong "it takes no argument"; fi
-if [ -n "${YULTARVAS_LIB:-}" ]; then YULTARVAS_LIB=$(cd "$YULTARVAS_LIB" && pwd); fi
-cd "$(dirname "$0")/.."
-if [ -z "${YULTARVAS_LIB:-}" ]; then
-    bash tools/native.sh yultarvas
-    YULTARVAS_LIB=$PWD/target/native
-fi
-work=$(mktemp -d)
-trap 'rm -rf "$work"' EXIT
+no_arguments "$@"
+library
+scratch
+cd "$root"
 "${CC:-cc}" -std=c11 -O2 -Wall -Wextra -Werror -Iinclude bindings/c/stack.c "$YULTARVAS_LIB/libyultarvas.a" \
     -lpthread -o "$work/stack"
 echo "on $(uname -m):"

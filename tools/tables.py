@@ -170,8 +170,8 @@ def tables():
         ("trellis/specs/Tables.antt", "suffixes", listed(flat(suffixes), 16, False)),
         ("rows/src/tables.rt", "TABLE", lines(packed)),
         ("rows/specs/Rows.antt", "rows", listed(packed, 8, False)),
-        ("resolve/src/tables.rt", "FALLBACK_BYTES", lines(fb_bytes, {64 * i: "bytes of " + n for i, n in enumerate(regions)})),
-        ("resolve/src/tables.rt", "FALLBACK_KEYS", lines(fb_keys, {64 * i: "rows of " + n for i, n in enumerate(regions)})),
+        ("fallback_entries/src/tables.rt", "FALLBACK_BYTES", lines(fb_bytes, {64 * i: "bytes of " + n for i, n in enumerate(regions)})),
+        ("fallback_entries/src/tables.rt", "FALLBACK_KEYS", lines(fb_keys, {64 * i: "rows of " + n for i, n in enumerate(regions)})),
         ("search/specs/Tables.antt", "fallbackBytes", listed(fb_bytes, 16, True)),
         ("search/specs/Tables.antt", "fallbackKeys", listed(fb_keys, 8, True)),
     ]

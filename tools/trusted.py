@@ -40,7 +40,7 @@ WIDTH = 150
 # no promises: the contracts of `encoder` cite the definition of the search alone, and what its parts say to
 # each other is used by proofs only. The public functions of all other crates are calls for users.
 PAGE = 'promise'
-PARTS = 'coord solve join resolve parity'.split()
+PARTS = 'coord solve join fallback_entries resolve parity'.split()
 
 # What a type ends in, where it is a proposition. A product is one if a part of it is.
 CONNECTIVES = set('≡ ≢ < ≤ > ≥ ↔ ⊎ ⊥ ∈ ∉ ≈'.split())

@@ -10,12 +10,9 @@
 set -euo pipefail
 . "$(dirname "$0")/../common.sh"
 help_if_asked "$@"
-if [ $# -ne 2 ]; then wrong "it wants two numbers"; fi
-for number in "$@"; do
-    if ! whole_number "$number"; then wrong "$number is not a whole number"; fi
-done
+whole_numbers 2 two "$@"
 read -ra program <<<"${PROGRAM:-}"
-if ! command -v "${program[0]:-}" >/dev/null; then wrong "PROGRAM has to name a program"; fi
+names_program PROGRAM "${program[0]:-}"
 nearest=${NEAREST:-$root/target/nearest_points}
 if [ ! -x "$nearest" ]; then
     wrong "there is no $nearest: rustc -O tools/nearest/main.rs -o target/nearest_points builds it"

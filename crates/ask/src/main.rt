@@ -1,217 +1,18 @@
-// Answers each request line of standard input with one line on standard output.
+// Answers each request line of standard input with one line on standard output: crate answers says how, at the
+// head of its src/lib.rt.
 //
-//   decode W                    W: 1 to 16 hex digits, either case             -> point=c0,..,c23
-//   point C0 .. C23             C: an i32, decimal digits with a - or no sign  -> word=W12, or refused=5
-//   scale N S X0 .. X23         N: a setting, decimal digits; S, X: doubles    -> word=W12 score=B16 point=c0,..,c23, or refused=K
-//   auto N X0 .. X23            at the scale that the samples give             -> the same
-//   lower X0 .. X23             the largest magnitude and the lower scale      -> max=B16 scale=B16, or refused=K
-//   score X0 .. X23 C0 .. C23   the score of samples and a point               -> score=B16, or refused=K
-//
-// A double is given by 1 to 16 hex digits of its bits and answered by 16, a zero with its sign cleared.
-//
-// The words of a line stand one space apart, and its end is an LF, which the last line may lack. A line that is no
-// request, and one of 1,024 bytes or more, is answered by refused=9.
+// A line's end is an LF, which the last line may lack. A line of 1,024 bytes or more is no request: it is answered by
+// refused=9.
 //
 // A program of this language has no exit status. So a read or a write that fails is said on standard error,
 // and from then on nothing is answered: what was written is a beginning of the right answers, whose last line
 // may be cut.
-mod parse;
-
-use encoder::Code;
+use answers::Reply;
 use libc::STDERR_FILENO;
 use libc::STDIN_FILENO;
 use libc::STDOUT_FILENO;
-use request::Double;
-use request::Number;
-use request::after_name;
-use request::read_decimal;
-use request::read_double;
-use request::read_hex;
-use score::Scales;
 use text::put;
-use text::put_decimal;
-use text::put_double;
-use text::put_hex;
-use text::put_list;
-
-// ---- fields of an answer. Each puts its key and its value from `to` on, and answers the place behind them.
-
-fn word_field(out: &mut [u8], to: usize, key: &[u8], word: u64) -> usize {
-    let value = put(out, to, key);
-    put_hex(out, value, word, 12)
-}
-
-fn double_field(out: &mut [u8], to: usize, key: &[u8], x: f64) -> usize {
-    let value = put(out, to, key);
-    put_double(out, value, x)
-}
-
-fn point_field(out: &mut [u8], to: usize, key: &[u8], y: [i32; 24]) -> usize {
-    let value = put(out, to, key);
-    put_list(out, value, y)
-}
-
-// ---- answers. Each puts a line into out from `to` on, and answers the place behind it.
-
-fn refused(out: &mut [u8], to: usize, number: u32) -> usize {
-    let value = put(out, to, b"refused=");
-    let end = put_decimal(out, value, number as u64);
-    put(out, end, b"\n")
-}
-
-// The point of the word that stands at `at`.
-fn decode(s: &[u8], at: usize, out: &mut [u8], to: usize) -> usize {
-    let Number::Read(word, next) = read_hex(s, at) else {
-        return refused(out, to, 9);
-    };
-    if next != s.len() {
-        return refused(out, to, 9);
-    }
-    let end = point_field(out, to, b"point=", tetra::decode(word));
-    put(out, end, b"\n")
-}
-
-fn encode(y: [i32; 24], out: &mut [u8], to: usize) -> usize {
-    let e = tetra::encode(y);
-    if e.number != 0 {
-        return refused(out, to, e.number);
-    }
-    let end = word_field(out, to, b"word=", e.word);
-    put(out, end, b"\n")
-}
-
-// The word of the point that stands at `at`.
-fn point(s: &[u8], at: usize, out: &mut [u8], to: usize) -> usize {
-    let p = parse::read_point(s, at);
-    if !p.good | (p.next != s.len()) {
-        return refused(out, to, 9);
-    }
-    let y = p.y;
-    encode(y, out, to)
-}
-
-fn code(c: Code, out: &mut [u8], to: usize) -> usize {
-    if c.number != 0 {
-        return refused(out, to, c.number);
-    }
-    let y = c.point;
-    let first = word_field(out, to, b"word=", c.word);
-    let second = double_field(out, first, b" score=", c.score);
-    let end = point_field(out, second, b" point=", y);
-    put(out, end, b"\n")
-}
-
-// A setting of the shrinks: from 8 on all are the same.
-fn setting(n: u64) -> u32 {
-    if n < 8 { n as u32 } else { 8 }
-}
-
-// The code at a scale: setting, scale and samples stand at `at`.
-fn scale(s: &[u8], at: usize, out: &mut [u8], to: usize) -> usize {
-    let Number::Read(n, after) = read_decimal(s, at) else {
-        return refused(out, to, 9);
-    };
-    let Double::Read(by, next) = read_double(s, after) else {
-        return refused(out, to, 9);
-    };
-    let p = parse::read_samples(s, next);
-    if !p.good | (p.next != s.len()) {
-        return refused(out, to, 9);
-    }
-    let x = p.x;
-    code(encoder::encode_at_scale(x, by, setting(n)), out, to)
-}
-
-// The code at the scale that the samples give.
-fn auto(s: &[u8], at: usize, out: &mut [u8], to: usize) -> usize {
-    let Number::Read(n, next) = read_decimal(s, at) else {
-        return refused(out, to, 9);
-    };
-    let p = parse::read_samples(s, next);
-    if !p.good | (p.next != s.len()) {
-        return refused(out, to, 9);
-    }
-    let x = p.x;
-    code(encoder::encode_with(x, setting(n)), out, to)
-}
-
-fn scales(l: Scales, out: &mut [u8], to: usize) -> usize {
-    if l.number != 0 {
-        return refused(out, to, l.number);
-    }
-    let first = double_field(out, to, b"max=", l.largest);
-    let end = double_field(out, first, b" scale=", l.scale);
-    put(out, end, b"\n")
-}
-
-fn lower(s: &[u8], at: usize, out: &mut [u8], to: usize) -> usize {
-    let p = parse::read_samples(s, at);
-    if !p.good | (p.next != s.len()) {
-        return refused(out, to, 9);
-    }
-    let x = p.x;
-    scales(score::lower_scale(x), out, to)
-}
-
-fn scored(x: [f64; 24], y: [i32; 24], out: &mut [u8], to: usize) -> usize {
-    let t = score::t_of(x, y);
-    if t.number != 0 {
-        return refused(out, to, t.number);
-    }
-    let end = double_field(out, to, b"score=", t.score);
-    put(out, end, b"\n")
-}
-
-// The score of samples and a point, which stand at `at`.
-fn score(s: &[u8], at: usize, out: &mut [u8], to: usize) -> usize {
-    let p = parse::read_samples(s, at);
-    if !p.good {
-        return refused(out, to, 9);
-    }
-    let q = parse::read_point(s, p.next);
-    if !q.good | (q.next != s.len()) {
-        return refused(out, to, 9);
-    }
-    let x = p.x;
-    let y = q.y;
-    scored(x, y, out, to)
-}
-
-// ---- requests, by their names
-
-fn answer_samples(s: &[u8], out: &mut [u8], to: usize) -> usize {
-    let at = after_name(s, b"auto");
-    if at > 0 {
-        return auto(s, at, out, to);
-    }
-    let at = after_name(s, b"lower");
-    if at > 0 {
-        return lower(s, at, out, to);
-    }
-    let at = after_name(s, b"score");
-    if at > 0 {
-        return score(s, at, out, to);
-    }
-    refused(out, to, 9)
-}
-
-fn answer(s: &[u8], out: &mut [u8], to: usize) -> usize {
-    let at = after_name(s, b"decode");
-    if at > 0 {
-        return decode(s, at, out, to);
-    }
-    let at = after_name(s, b"point");
-    if at > 0 {
-        return point(s, at, out, to);
-    }
-    let at = after_name(s, b"scale");
-    if at > 0 {
-        return scale(s, at, out, to);
-    }
-    answer_samples(s, out, to)
-}
-
-// ---- the stream
+ghost use Prim.Native.Nat.{_≤_};
 
 // What is held from byte to byte: so many bytes of a line, and so many of answers; and whether each write
 // went well.
@@ -273,12 +74,21 @@ fn write_rest(out: &[u8], held: Held) -> Turn {
     failed(b"ask: standard output cannot be written, answers are missing\n")
 }
 
+// Puts an answer into out from `to` on, and answers the place behind it.
+fn put_answer(a: Reply, out: &mut [u8], to: usize) -> usize
+    requires { ⌜ a .length ≤ 336 ⌝ }
+{
+    let n = a.length;
+    let bytes = a.bytes;
+    put(out, to, &bytes[..n])
+}
+
 // Answers the line of which n bytes are held. Where they fill the buffer the line was too long.
 fn end_line(line: &[u8], n: usize, out: &mut [u8], to: usize) -> usize {
     if n < line.len() {
-        return answer(&line[0..n], out, to);
+        return put_answer(answers::answer(&line[0..n]), out, to);
     }
-    refused(out, to, 9)
+    put_answer(answers::no_request(), out, to)
 }
 
 fn take(b: u8, line: &mut [u8], out: &mut [u8], held: Held) -> Held {

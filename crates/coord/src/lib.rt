@@ -19,7 +19,7 @@ ghost use Rattle.coord.specs.Inner.{unbiased, slotOf};
 use search::Coord;
 
 // How far the targets are drawn in, one after the other.
-const SHRINKS: [f64; 8] = [1.0, 0.85, 0.7, 0.55, 0.4, 0.25, 0.1, 0.0];
+const SHRINKS: [f64; search::SHRINKS] = [1.0, 0.85, 0.7, 0.55, 0.4, 0.25, 0.1, 0.0];
 
 // The member o + 4k of one k: its rank mark, its weight, its squared distance to the target.
 struct Slot {

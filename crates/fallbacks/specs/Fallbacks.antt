@@ -8,11 +8,12 @@ use Rattle.search.specs.Tables.{tables, fallbackBytes, fallbackKeys}
 use Rattle.fallbacks.specs.Region.{LeastOf, point, byteOf, keyOf}
 use Rattle.fallbacks.specs.Laws.Order.{after-both}
 use Rattle.fallbacks.specs.Laws.Member.{point-size, point-names}
-use Rattle.fallbacks.specs.Laws.Entries.{entry-least}
+use Rattle.fallbacks.specs.Laws.Entries.{entry-member, entry-first}
 
 -- an entry names the least point of its region
 pub fallback-least : (kind p r st : ℕ) → kind < 2 → p < 2 → r < 2 → st < 64 → LeastOf kind p r st (byteOf kind p r st) (keyOf kind p r st)
-fallback-least = entry-least
+fallback-least kind p r st hk hp hr hs =
+    record { member = entry-member kind p r st hk hp hr hs; least = entry-first kind p r st hk hp hr hs }
 
 -- a region has one least point, named by one byte and one row
 pub least-one : (kind p r st c key d k : ℕ) → p < 2 → r < 2 → LeastOf kind p r st c key → LeastOf kind p r st d k → (c ≡ d) × (key ≡ k)

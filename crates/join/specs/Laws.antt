@@ -3,7 +3,6 @@ use mathlib.Core.Path.{_≡_, _∙_, sym, ap, ap₂}
 use mathlib.Core.Bool.{Bool, true, false, cond}
 use mathlib.Core.List.{List}
 use Prim.Native.Nat.{ℕ, zero, suc, _+_, _*_, _/_, _%_, _<_, _≤_}
-use native.Mathlib.Nat.{mul-comm}
 use native.Mathlib.Omega.{arith}
 use lib.Ieee.{lt, le}
 use lib.ListN.{getD}
@@ -11,8 +10,8 @@ use lib.Bits.{bitXor}
 use Rattle.trellis.specs.Tables.{nexts}
 use Rattle.laws.specs.Laws.Lists.{tab-at}
 use Rattle.trellis.specs.Trellis.{nextOf, firstNexts}
-use Rattle.trellis.specs.Laws.Path.{row-at, next-lt}
-use Rattle.trellis.specs.Laws.Rows.{next-by}
+use Rattle.trellis.specs.Laws.Path.{next-entry-lt}
+use Rattle.trellis.specs.Laws.Rows.{next-by, next-read}
 use Rattle.search.specs.declared.Way.{Way}
 use Rattle.search.specs.Tables.{tables}
 use Rattle.search.specs.Laws.Tables.{entry-at}
@@ -40,11 +39,7 @@ mid-is i1 t h =
 pub mid-lt : (i1 t : ℕ) → t < 32 → midAt tables i1 t < 256
 mid-lt i1 t h = rw (sym (mid-is i1 t h)) (omega arith)
 
--- the state at cut 16 of branch b out of state s, at its place among all, and by the branches out of the first eight states
-branch-at : (s b : ℕ) → b < 16 → nextOf s b ≡ getD nexts (s * 16 + b) 0
-unfolding nextOf
-branch-at s b h = row-at 16 nexts s b h ∙ ap (λ (i : ℕ). getD nexts (i + b) 0) (mul-comm 16 s)
-
+-- the state at cut 16 of branch b out of state s, by the branches out of the first eight states
 first-at : (s b : ℕ) → s < 8 → b < 16 → getD firstNexts (s * 16 + b) 0 ≡ nextOf s b
 unfolding firstNexts
 first-at s b h k =
@@ -54,13 +49,10 @@ first-at s b h k =
 
 pub next-is : (xs : List ℕ) → xs ≡ firstNexts → (s b : ℕ) → s < 64 → b < 16
     → bitXor (s / 8) (getD xs (s % 8 * 16 + b) 0) ≡ getD nexts (s * 16 + b) 0
-next-is xs q s b h k = rw q (ap (bitXor (s / 8)) (first-at (s % 8) b (omega arith) k) ∙ next-by s b h k ∙ branch-at s b k)
-
-pub next-at-lt : (s b : ℕ) → b < 16 → getD nexts (s * 16 + b) 0 < 64
-next-at-lt s b h = rw (sym (branch-at s b h)) (next-lt s b)
+next-is xs q s b h k = rw q (ap (bitXor (s / 8)) (first-at (s % 8) b (omega arith) k) ∙ next-by s b h k ∙ next-read s b k)
 
 pub last-lt : (p i1 t : ℕ) → t < 32 → lastAt tables p i1 t < 128
-last-lt p i1 t h = omega (arith, next-at-lt (i1 % 64) (t / 2) (omega arith))
+last-lt p i1 t h = omega (arith, next-entry-lt (i1 % 64 * 16 + t / 2))
 
 -- ---- the best path of a join
 abbrev pub InRange : Way → Type 0

@@ -1,6 +1,6 @@
 -- The words of lists, of order and of whole numbers that definitions of other crates use: what a reader has to believe of this crate.
 -- Assumes nothing.
-use mathlib.Core.Bool.{Bool, true, false}
+use mathlib.Core.Bool.{Bool, true, false, cond}
 use mathlib.Core.List.{List, [], _∷_}
 use Prim.Native.Nat.{ℕ, zero, suc, _+_, _-_, _/_, _%_, compare, Ordering, Ordering·lt, Ordering·eq, Ordering·gt}
 use lib.Dec.{eqb}
@@ -14,7 +14,7 @@ tab f (suc n) = f 0 ∷ tab (λ (k : ℕ). f (suc k)) n
 -- the first place at which c stands; the length where it stands nowhere
 abbrev pub seek : ℕ → List ℕ → ℕ
 seek c [] = 0
-seek c (x ∷ xs) = elim (eqb x c) [ true ↦ 0 | false ↦ suc (seek c xs) ]
+seek c (x ∷ xs) = cond (eqb x c) 0 (suc (seek c xs))
 
 -- smaller: yes; equal: as the rest says; greater: no
 abbrev pub pick3 : Ordering → Bool → Bool

@@ -276,7 +276,7 @@ fn last(
     let o3 = r.odd;
     let v3 = r.up;
     let suf = trellis::suffixes();
-    let fall3 = resolve::fallbacks(1, p, t3);
+    let fall3 = fallback_entries::fallbacks(1, p, t3);
     let e3 = end_starts(&g3, &d3, &w3, &k3, &o3, &v3, &suf, fall3);
     pass(
         p,
@@ -374,7 +374,7 @@ pub fn parity(p: u32, t1: [f64; 8], t2: [f64; 8], t3: [f64; 8], u0: f64, setting
     let o = r.odd;
     let v = r.up;
     let pre = trellis::prefixes();
-    let fall = resolve::fallbacks(0, p, t1);
+    let fall = fallback_entries::fallbacks(0, p, t1);
     let e = end_starts(&g, &d, &w, &k, &o, &v, &pre, fall);
     middle(p, &g, &d, &w, &k, &o, &v, fall, e, t2, t3, u0, setting)
 }

@@ -17,7 +17,8 @@
 --   the double nearest to an exact root        `NearestRoot`                          root/specs/Root
 --   a page: its text, its num and its words    `Page`                                 page/specs/Page
 --   its counts                                 `pageCounts`                           page/specs/Counts
---   what is printed, in an array               `blockTexts`, `refusedText`, `inArray` shown/specs/Shown
+--   what is printed, in an array               `blockTexts`, `inArray`                shown/specs/Shown
+--   and of a refusal                           `refusedText`                          text/specs/Text
 -- The structs of the answers (`Encoded`, `Code`, ..) stand in src/ of their crates.
 use mathlib.Core.Path.{_≡_}
 use mathlib.Core.Bool.{true, false}
@@ -46,7 +47,8 @@ use Rattle.page.specs.declared.PageRead.{PageRead}
 use Rattle.shown.specs.declared.Printed.{Printed}
 use Rattle.page.specs.Page.{Page}
 use Rattle.page.specs.Counts.{pageCounts}
-use Rattle.shown.specs.Shown.{blockTexts, refusedText, inArray}
+use Rattle.text.specs.Text.{refusedText}
+use Rattle.shown.specs.Shown.{blockTexts, inArray}
 
 -- ---- WORDS (demand 2): `decode` of the word w answers y, `encode` of y answers e
 -- Every word decodes to the point that its fields define, and that is a lattice point that has a word.

@@ -1,6 +1,6 @@
 -- A coordinate y = p + 2c + 4k: its parity p, its bit c, its quotient k, all from the floor (-3 has p = 1, c = 0, k = -1); and its rank
 -- among the members of o + 4Z, o = p + 2c, counted outward from zero, the positive one first on a tie. Assumes nothing.
-use mathlib.Core.Bool.{Bool, true, false}
+use mathlib.Core.Bool.{Bool, true, false, cond}
 use mathlib.Core.List.{List, [], _∷_}
 use Prim.Native.Nat.{ℕ, zero, suc, _+_, _*_, _/_, _%_}
 use lib.Dec.{eqb}
@@ -19,7 +19,7 @@ kOf y = divZ y 4
 -- ---- the whole numbers outward from zero: 0, 1, -1, 2, -2, ..
 abbrev pub outward : ℕ → ℤ
 outward zero = pos 0
-outward (suc n) = elim (eqb (n % 2) 0) [ true ↦ pos (n / 2 + 1) | false ↦ negsuc (n / 2) ]
+outward (suc n) = cond (eqb (n % 2) 0) (pos (n / 2 + 1)) (negsuc (n / 2))
 
 -- where a whole number stands among them
 abbrev pub standing : ℤ → ℕ
@@ -30,7 +30,7 @@ standing (negsuc n) = 2 * n + 2
 -- how many of the first n of them leave the remainder o
 abbrev pub countTo : ℕ → ℕ → ℕ
 countTo o zero = 0
-countTo o (suc n) = elim (eqb (modZ (outward n) 4) o) [ true ↦ 1 | false ↦ 0 ] + countTo o n
+countTo o (suc n) = cond (eqb (modZ (outward n) 4) o) 1 0 + countTo o n
 
 -- the rank of y: how many members of its own o + 4Z stand before it
 unfoldable pub rankOf : ℤ → ℕ

@@ -1,2 +1,3 @@
--- the words of a request line: what a reader has to believe
+-- the words of a request line, and its rows of 24: what a reader has to believe
 pub mod Words
+pub mod Rows

@@ -1,5 +1,6 @@
-// The words of a request line. A place is an index into the line. An argument is one space and a word: its
-// reader starts at the space, and answers the value with the place after the word. No call has a `requires`.
+// The words of a request line, and its rows of 24 words. A place is an index into the line. An argument is one
+// space and a word: its reader starts at the space, and answers the value with the place after the word. A row is
+// 24 arguments. No call has a `requires`.
 use text::Digit;
 use text::byte_at;
 use text::digit_of;
@@ -11,6 +12,7 @@ ghost use lib.ListN.{length, drop};
 ghost use Rattle.request.specs.Words.{lowered, digitIn, moreOf, countedOf, numberFrom};
 ghost use Rattle.request.specs.Words.{afterName, hexAfter, decimalAfter, doubleAfter};
 ghost use Rattle.request.specs.Words.{plusOf, minusOf, signedAfter};
+ghost use Rattle.request.specs.Rows.{noSamples, samplesAfter, noPoint, pointAfter};
 
 // A number and the place after it, or that none stands there.
 pub enum Number {
@@ -28,6 +30,20 @@ pub enum Double {
 pub enum Signed {
     Read(i32, usize),
     Bad,
+}
+
+// 24 samples and the place after them, or that they do not stand there: then the place is 0, and each sample too.
+pub struct Samples {
+    pub good: bool,
+    pub next: usize,
+    pub x: [f64; 24],
+}
+
+// 24 coordinates, likewise.
+pub struct Point {
+    pub good: bool,
+    pub next: usize,
+    pub y: [i32; 24],
 }
 
 // The place after the line's first word where that is `name`; else 0.
@@ -219,4 +235,66 @@ pub fn read_signed(s: &[u8], at: usize) -> Signed
         return minus(number_from(s, first + 1, false, s.len()));
     }
     plus(number_from(s, first, false, s.len()))
+}
+
+// ---- rows
+
+fn no_samples() -> Samples
+    ensures { λ r. ⌜ r ≡ noSamples ⌝ }
+{
+    Samples {
+        good: false,
+        next: 0,
+        x: [0.0f64; 24],
+    }
+}
+
+// 24 doubles.
+pub fn read_samples(s: &[u8], at: usize) -> Samples
+    ensures { λ r. ⌜ r ≡ samplesAfter (now (s .entry)) at ⌝ }
+{
+    let mut x = [0.0f64; 24];
+    let mut next = at;
+    for k in 0..24usize {
+        let Double::Read(v, after) = read_double(s, next) else {
+            return no_samples();
+        };
+        x[k] = v;
+        next = after;
+    }
+    Samples {
+        good: true,
+        next,
+        x,
+    }
+}
+
+fn no_point() -> Point
+    ensures { λ r. ⌜ r ≡ noPoint ⌝ }
+{
+    Point {
+        good: false,
+        next: 0,
+        y: [0i32; 24],
+    }
+}
+
+// 24 numbers with their signs.
+pub fn read_point(s: &[u8], at: usize) -> Point
+    ensures { λ r. ⌜ r ≡ pointAfter (now (s .entry)) at ⌝ }
+{
+    let mut y = [0i32; 24];
+    let mut next = at;
+    for j in 0..24usize {
+        let Signed::Read(v, after) = read_signed(s, next) else {
+            return no_point();
+        };
+        y[j] = v;
+        next = after;
+    }
+    Point {
+        good: true,
+        next,
+        y,
+    }
 }

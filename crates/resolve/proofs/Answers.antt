@@ -2,13 +2,11 @@
 use mathlib.Core.Path.{_≡_, refl, _∙_, sym, ap, ap₂}
 use mathlib.Core.Bool.{Bool, true, false, cond, _&&_, not}
 use mathlib.Core.List.{List}
-use Prim.Native.Nat.{ℕ, _+_, _*_, _/_, _%_, _<_, _≤_, min}
+use Prim.Native.Nat.{ℕ, _≤_, min}
 use native.Mathlib.Omega.{arith}
 use lib.ListN.{length, set}
 use lib.Seq.{set-out}
 use lib.Ieee.{Float}
-use Rattle.laws.specs.Words.{tab}
-use Rattle.laws.specs.Laws.Lists.{tab-eq}
 use Rattle.laws.specs.Laws.Tests.{cond-same}
 use Rattle.rank.specs.declared.Bound.{Bound}
 use Rattle.rank.specs.Vector.{boundCut, middleCut}
@@ -20,13 +18,13 @@ use Rattle.search.specs.declared.Found.{Found}
 use Rattle.search.specs.declared.Found.the-variants.{At, Nothing}
 use Rattle.search.specs.Solve.{infinity, foundOf}
 use Rattle.search.specs.Bound.{lexNum, lexOf}
-use Rattle.search.specs.Tables.{tables, classOf, closedOf, fallbackBytes, fallbackKeys}
-use Rattle.search.specs.Entries.{infeasible, fallback, better, midOf, settle}
-use Rattle.search.specs.Join.{entAt, noEntry}
+use Rattle.search.specs.Tables.{tables, classOf, closedOf}
+use Rattle.search.specs.Entries.{infeasible, better, midOf, settle}
+use Rattle.search.specs.Join.{entAt}
 use Rattle.search.specs.Parity.{fixed, closed}
 use Rattle.solve.specs.Inner.Flat.{solveIn}
-use Rattle.resolve.specs.Inner.Flat.{Search, betterBy, midBy, endOver, midOver, membersOf, squaresOf, fallbackIn, loweredBy, startOver}
-use Rattle.resolve.specs.Laws.{better-by, mid-by, fallback-flat, start-over}
+use Rattle.resolve.specs.Inner.Flat.{Search, betterBy, midBy, endOver, midOver, loweredBy, startOver}
+use Rattle.resolve.specs.Laws.{better-by, mid-by, start-over}
 
 -- ---- the bounds: a cut packed and turned is the cut read with coordinate 0 most significant
 pub closed-is : (cost : ℕ) (cut : List ℕ) → lexOf (packedOf cut) ≡ lexNum 0 cut → {b : Bound} {x : Closed} → (b .cost ≡ cost) × (b .cut ≡ cut)
@@ -46,17 +44,6 @@ unfolding lexOf packedOf lexNum
 turned-middle = refl
 
 -- ---- as they start
-pub all-fallbacks : (ts : List Float) (kind p : ℕ) → kind < 2 → p < 2 → {bytes keys : List ℕ} {members squares : List Float} {r : List Entry}
-    → bytes ≡ fallbackBytes → keys ≡ fallbackKeys → members ≡ membersOf p → squares ≡ squaresOf members ts
-    → r ≡ tab (λ (i : ℕ). fallbackIn bytes keys squares ((kind * 2 + p) * 128 + i)) 128
-    → r ≡ tab (λ (i : ℕ). fallback tables ts kind p (i / 64) (i % 64)) 128
-all-fallbacks ts kind p hk hp {bytes} {keys} {members} {squares} qb qk qm qs h =
-    h ∙ tab-eq Entry noEntry (λ (i : ℕ). fallbackIn bytes keys squares ((kind * 2 + p) * 128 + i))
-    (λ (i : ℕ). fallback tables ts kind p (i / 64) (i % 64)) 128
-    (λ i l. ap₂ (λ (a b : List ℕ). fallbackIn a b squares ((kind * 2 + p) * 128 + i)) qb qk
-    ∙ (ap (λ (q : List Float). fallbackIn fallbackBytes fallbackKeys q ((kind * 2 + p) * 128 + i)) (qs ∙ ap (λ (m : List Float). squaresOf m ts) qm)
-    ∙ fallback-flat ts kind p i hk hp l))
-
 pub started : (f : Entry) (b0 : Best) (c0 : ℕ) (b1 : Best) (c1 : ℕ) {e e′ x : Entry} {top l l′ : Float}
     → e ≡ better f b0 c0 → e′ ≡ better e b1 c1 → top ≡ infinity → l ≡ loweredBy top b0 → l′ ≡ loweredBy l b1
     → x ≡ settle (record { ent = e′; lb = l′; loose = not (b0 .met && b1 .met) }) → x ≡ startOver f b0 c0 b1 c1

@@ -1,6 +1,6 @@
 -- The listing sorted by cost and then by ranks, split by class and cut, is the table. Assumes nothing.
 use mathlib.Core.Path.{_≡_, refl}
-use mathlib.Core.Bool.{true, false}
+use mathlib.Core.Bool.{cond}
 use mathlib.Core.List.{List, [], _∷_, _++_}
 use Prim.Native.Nat.{ℕ, zero, suc, _+_, _^_}
 use lib.Dec.{eqb}
@@ -17,7 +17,7 @@ merge zero xs ys = []
 merge (suc n) [] ys = ys
 merge (suc n) (x ∷ xs) [] = x ∷ xs
 merge (suc n) (x ∷ xs) (y ∷ ys) =
-    elim (before (unpack 8 y) (unpack 8 x)) [ true ↦ y ∷ merge n (x ∷ xs) ys | false ↦ x ∷ merge n xs (y ∷ ys) ]
+    cond (before (unpack 8 y) (unpack 8 x)) (y ∷ merge n (x ∷ xs) ys) (x ∷ merge n xs (y ∷ ys))
 
 -- the first 2 ^ d packed rows of a list, in order
 unfoldable pub sort : ℕ → List ℕ → List ℕ
@@ -32,7 +32,7 @@ sorted = sort 14 listing
 -- the rows of class c, in their order
 unfoldable pub ofClass : ℕ → List ℕ → List ℕ
 ofClass c [] = []
-ofClass c (w ∷ ws) = elim (eqb (class (unpack 8 w)) c) [ true ↦ w ∷ ofClass c ws | false ↦ ofClass c ws ]
+ofClass c (w ∷ ws) = let rest = ofClass c ws in cond (eqb (class (unpack 8 w)) c) (w ∷ rest) rest
 
 -- ---- and cut
 -- the first n rows of class 0, then the first n of class 1

@@ -8,12 +8,13 @@ use borrow.Author.Tests.{eq-eqb, ne-eqb}
 use lib.IntN.{ℤ}
 use lib.ListN.{length, take, drop, replicate, length-drop}
 use lib.Seq.{sets, drop-drop, take-append-le, drop-append-le}
+use Rattle.text.specs.Text.{refusedText}
 use Rattle.text.specs.Laws.Placed.{into-zeros}
 use Rattle.page.specs.declared.PageRead.{PageRead}
 use Rattle.page.specs.Answer.{numberIn, wordsIn, countsIn, readOf, cellsOf}
 use Rattle.page.specs.Reader.{readingOf}
 use Rattle.page.specs.Laws.Answer.{counts-length, few-words, whole-read, whole-cells}
-use Rattle.shown.specs.Shown.{blockText, blockTexts, refusedText, printed, inArray}
+use Rattle.shown.specs.Shown.{blockText, blockTexts, printed, inArray}
 
 -- ---- blocks in a row
 -- what is left to write at block i: that block, and what is left at i + 1

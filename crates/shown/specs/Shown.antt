@@ -5,7 +5,7 @@ use Prim.Native.Nat.{ℕ, zero, suc, _-_}
 use lib.Dec.{eqb}
 use lib.IntN.{ℤ}
 use lib.ListN.{length, take, drop, replicate}
-use Rattle.text.specs.Text.{bytes, line, decimal, listed}
+use Rattle.text.specs.Text.{bytes, line, decimal, listed, refusedText}
 use Rattle.page.specs.Answer.{Reading, numberIn, wordsIn, countsIn}
 use Rattle.shown.specs.declared.Printed.{Printed}
 
@@ -17,9 +17,6 @@ blockText index counts = line (bytes "block=") (decimal index) ++ line (bytes "c
 unfoldable pub blockTexts : ℕ → ℕ → List ℤ → List ℕ
 blockTexts i zero counts = []
 blockTexts i (suc n) counts = blockText i (take 24 counts) ++ blockTexts (suc i) n (drop 24 counts)
-
-unfoldable pub refusedText : ℕ → List ℕ
-refusedText number = line (bytes "refused=") (decimal number)
 
 -- what is printed for a text: the page's blocks, which are none for an empty page; or the refusal alone
 unfoldable pub printed : Reading → List ℕ

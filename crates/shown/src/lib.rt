@@ -8,7 +8,8 @@ ghost use Prim.Native.Nat.{_+_, _*_, _≤_};
 ghost use lib.ListN.{length, take, drop};
 ghost use lib.Seq.{sets};
 ghost use Rattle.page.specs.Reader.{readingOf};
-ghost use Rattle.shown.specs.Shown.{blockText, blockTexts, refusedText, printed, inArray};
+ghost use Rattle.text.specs.Text.{refusedText};
+ghost use Rattle.shown.specs.Shown.{blockText, blockTexts, printed, inArray};
 
 // A text of at most 20,672 bytes, 323 for each of 64 blocks: how many there are, and the bytes, with zeros
 // behind them.

@@ -52,7 +52,7 @@ refused-by y e =
 -- a at the coordinates listed, and what f has at the others
 abbrev pub at : ℤ → List ℕ → (ℕ → ℤ) → ℕ → ℤ
 at a [] f i = f i
-at a (k ∷ ks) f i = elim (eqb k i) [ true ↦ a | false ↦ at a ks f i ]
+at a (k ∷ ks) f i = cond (eqb k i) a (at a ks f i)
 
 -- a everywhere
 abbrev pub all : ℤ → ℕ → ℤ

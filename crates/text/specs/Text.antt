@@ -1,4 +1,5 @@
--- Texts as lists of bytes: a quoted text, a line, a number in decimal, numbers in a row, a number in hexadecimal. Assumes nothing.
+-- Texts as lists of bytes: a quoted text, a line, a number in decimal, the line of a refusal, numbers in a row, a number in hexadecimal.
+-- Assumes nothing.
 use mathlib.Core.Bool.{cond}
 use mathlib.Core.List.{List, [], _∷_, _++_}
 use Prim.Native.Nat.{ℕ, zero, suc, _+_, _/_, _%_}
@@ -26,6 +27,10 @@ decimalBy (suc f) n = cond (ltb n 10) ((48 + n) ∷ []) (decimalBy f (n / 10) ++
 
 unfoldable pub decimal : ℕ → List ℕ
 decimal n = decimalBy (suc n) n
+
+-- ---- the line by which a program refuses
+unfoldable pub refusedText : ℕ → List ℕ
+refusedText number = line (bytes "refused=") (decimal number)
 
 -- ---- numbers with a sign
 -- a whole number: decimal, with a minus sign below zero

@@ -1,6 +1,6 @@
 -- The Golay code in trio order, from its twelve columns. Bit j of a codeword belongs to the coordinate at place j of trio order; the three
 -- bytes of a codeword, lowest first, are its three sections. Assumes nothing.
-use mathlib.Core.Bool.{true, false}
+use mathlib.Core.Bool.{cond}
 use mathlib.Core.List.{List, [], _∷_}
 use Prim.Native.Nat.{ℕ, _+_, _*_, _/_, _%_}
 use lib.Dec.{eqb}
@@ -44,4 +44,4 @@ third w = w / 65536
 -- ---- how often k stands in a list
 abbrev pub tally : ℕ → List ℕ → ℕ
 tally k [] = 0
-tally k (n ∷ ns) = elim (eqb n k) [ true ↦ 1 | false ↦ 0 ] + tally k ns
+tally k (n ∷ ns) = cond (eqb n k) 1 0 + tally k ns

@@ -1,5 +1,5 @@
 -- Trio order: the set bits of each octad ascending, in the order of the octads. Assumes nothing.
-use mathlib.Core.Bool.{true, false}
+use mathlib.Core.Bool.{cond}
 use mathlib.Core.List.{List, [], _∷_, _++_}
 use Prim.Native.Nat.{ℕ, zero, suc, _/_, _%_}
 use lib.Dec.{eqb}
@@ -18,7 +18,7 @@ octad3 = 0xf08320
 -- the places of the set bits among the n low bits of w, ascending, where the lowest bit stands at place i
 abbrev pub setBits : ℕ → ℕ → ℕ → List ℕ
 setBits zero i w = []
-setBits (suc n) i w = elim (eqb (w % 2) 1) [ true ↦ i ∷ setBits n (suc i) (w / 2) | false ↦ setBits n (suc i) (w / 2) ]
+setBits (suc n) i w = let rest = setBits n (suc i) (w / 2) in cond (eqb (w % 2) 1) (i ∷ rest) rest
 
 -- the coordinate at each place of trio order
 unfoldable pub order : List ℕ

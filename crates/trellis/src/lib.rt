@@ -149,7 +149,8 @@ pub fn prefix(s8: usize, b1: usize) -> u8
     if 2 <= b1 {
         return 0;
     }
-    tables::PREFIXES[s8][b1]
+    let pairs = prefixes();
+    pairs[s8][b1]
 }
 
 // The middle byte of branch `b2` out of state `s8`; 0 where there is none.
@@ -199,7 +200,8 @@ pub fn suffix(s16: usize, b3: usize) -> u8
     if 2 <= b3 {
         return 0;
     }
-    tables::SUFFIXES[s16][b3]
+    let pairs = suffixes();
+    pairs[s16][b3]
 }
 
 // The tables whole, for a search that reads them again and again: a constant array is made anew wherever it is read. The two prefix bytes of

@@ -23,7 +23,7 @@ use Rattle.trellis.specs.Tables.{prefixes, suffixes}
 use Rattle.search.specs.Record.{bitAt}
 use Rattle.search.specs.Tables.{tables, endByte, fallbackBytes, fallbackKeys}
 use Rattle.search.specs.Entries.{rankAt}
-use Rattle.fallbacks.specs.Region.{InRegion, LeastOf, point, byteOf, keyOf}
+use Rattle.fallbacks.specs.Region.{InRegion, NotAfter, point, byteOf, keyOf}
 use Rattle.fallbacks.specs.Laws.Order.{grade, allFit, grade-order}
 use Rattle.fallbacks.specs.Laws.Lower.{valuesOf, values-fit, ofClass, lower, lower-bound}
 use Rattle.fallbacks.specs.Laws.Member.{member-class, member-ranks, point-size}
@@ -138,26 +138,25 @@ low-at kind p r st c key b h t =
     go (suc zero) h x y = y
     go (suc (suc b)) h x y = absurd (omega arith)
 
-least-by : (kind p r st c key : ℕ) → p < 2 → r < 2 → InRegion kind r st c key → T (lowest kind p r st c key) → LeastOf kind p r st c key
-least-by kind p r st c key hp hr m t =
-    record {
-      member = m;
-      least = λ d k n.
-          grade-order (point p c key) (point p d k) (point-size p c key) (point-size p d k)
-          (point-fits p c key hp (member-ranks kind r st c key hr m)) (point-fits p d k hp (member-ranks kind r st d k hr n))
-          (over (low-at kind p r st c key (n .b) (n .b-lt) t)
-          (ap₂ (λ (x y : ℕ). ofClass (lower (offsets p x)) y) (sym (n .byte)) (sym (member-class kind r st d k hr n)))
-          (point-above p d k hp (member-ranks kind r st d k hr n)));
-    }
-  where
-    over : {a b c d : ℕ} → a ≤ b → b ≡ c → c ≤ d → a ≤ d
-    over h e l = omega arith
-
-pub entry-least : (kind p r st : ℕ) → kind < 2 → p < 2 → r < 2 → st < 64
-    → LeastOf kind p r st (byteOf kind p r st) (keyOf kind p r st)
-entry-least kind p r st hk hp hr hs =
+-- ---- so an entry is a member of its region, and no member of the region comes before it
+pub entry-member : (kind p r st : ℕ) → kind < 2 → p < 2 → r < 2 → st < 64 → InRegion kind r st (byteOf kind p r st) (keyOf kind p r st)
+entry-member kind p r st hk hp hr hs =
     let t = good-at kind p r st hk hp hr hs in
     let b = one-of kind st (byteOf kind p r st) (t .0) in
     let i = row-of r (keyOf kind p r st) hr (t .1) in
-    least-by kind p r st (byteOf kind p r st) (keyOf kind p r st) hp hr
-    (record { b = b .0; b-lt = b .1; byte = b .2; i = i .0; i-lt = i .1; row = i .2 }) (t .2)
+    record { b = b .0; b-lt = b .1; byte = b .2; i = i .0; i-lt = i .1; row = i .2 }
+
+pub entry-first : (kind p r st : ℕ) → kind < 2 → p < 2 → r < 2 → st < 64 → (d k : ℕ) → InRegion kind r st d k
+    → NotAfter (point p (byteOf kind p r st) (keyOf kind p r st)) (point p d k)
+entry-first kind p r st hk hp hr hs d k n =
+    let c = byteOf kind p r st in
+    let key = keyOf kind p r st in
+    let m = entry-member kind p r st hk hp hr hs in
+    grade-order (point p c key) (point p d k) (point-size p c key) (point-size p d k)
+    (point-fits p c key hp (member-ranks kind r st c key hr m)) (point-fits p d k hp (member-ranks kind r st d k hr n))
+    (over (low-at kind p r st c key (n .b) (n .b-lt) (good-at kind p r st hk hp hr hs .2))
+    (ap₂ (λ (x y : ℕ). ofClass (lower (offsets p x)) y) (sym (n .byte)) (sym (member-class kind r st d k hr n)))
+    (point-above p d k hp (member-ranks kind r st d k hr n)))
+  where
+    over : {a b c d : ℕ} → a ≤ b → b ≡ c → c ≤ d → a ≤ d
+    over h e l = omega arith

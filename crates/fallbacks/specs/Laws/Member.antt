@@ -21,7 +21,8 @@ use Rattle.rows.specs.Laws.Places.{number-class}
 use Rattle.trellis.specs.Tables.{prefixes, suffixes}
 use Rattle.trellis.specs.Trellis.{prefixOf, suffixOf}
 use Rattle.trellis.specs.Laws.Code.{bytes-even}
-use Rattle.trellis.specs.Laws.Path.{row-at, prefix-lt, suffix-lt}
+use Rattle.trellis.specs.Laws.Path.{prefix-lt, suffix-lt}
+use Rattle.trellis.specs.Laws.Rows.{prefix-read, suffix-read}
 use Rattle.trellis.specs.Laws.StateBytes.{prefixes-of, suffixes-of}
 use Rattle.tetra.specs.Laws.Point.{point-at}
 use Rattle.search.specs.Record.{bitAt}
@@ -32,12 +33,11 @@ use Rattle.fallbacks.specs.Region.{InRegion, point}
 -- ---- the byte of an end state: below 256, and of even weight, as a codeword's is
 module _ (Q : ℕ → Type 0) (kind st b : ℕ) (hb : b < 2) where
   end-is : Q (prefixOf st b) → Q (suffixOf st b) → Q (endByte tables kind st b)
-  unfolding prefixOf suffixOf
   end-is x y = go (eqb kind 0)
     where
       go : (t : Bool) → Q (cond t (getD prefixes (2 * st + b) 0) (getD suffixes (2 * st + b) 0))
-      go true = subst Q (row-at 2 prefixes st b hb) x
-      go false = subst Q (row-at 2 suffixes st b hb) y
+      go true = subst Q (prefix-read st b hb) x
+      go false = subst Q (suffix-read st b hb) y
 
 abbrev Even : ℕ → Type 0
 Even c = weight 8 c % 2 ≡ 0

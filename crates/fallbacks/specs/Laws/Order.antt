@@ -5,8 +5,8 @@ use mathlib.Core.Logic.{_⊎_, inl, inr}
 use mathlib.Core.Bool.{Bool, true, _&&_}
 use mathlib.Core.List.{List, [], _∷_}
 use Prim.Native.Nat.{ℕ, suc, _+_, _*_, _-_, _^_, _≤_, _<_}
-use native.Mathlib.Nat.{mul-le-mul-right, add-mul}
 use native.Mathlib.Omega.{arith}
+use lib.Arith.{digits-lt}
 use lib.Dec.{T, ltb, ltb→lt, lt→ltb}
 use lib.ListN.{length}
 use lib.IntN.{ℤ, pos, negsuc}
@@ -61,26 +61,12 @@ digits (v ∷ y) = digit v * 64 ^ length y + digits y
 next-power : (n : ℕ) → 64 ^ suc n ≡ 64 * 64 ^ n
 next-power n = let e : suc n ≡ 1 + n = omega arith in ap (λ (m : ℕ). 64 ^ m) e ∙ pow-add 64 1 n
 
--- what stands before decides, and where it is the same what follows does
-below-next : (a d P : ℕ) (A : ℕ) → a < A → d < P → a * P + d < A * P
-below-next a d P A h l =
-    let m = mul-le-mul-right P h in
-    let n : suc a ≡ a + 1 = omega arith in
-    let s : suc a * P ≡ a * P + P = ap (λ (x : ℕ). x * P) n ∙ add-mul a 1 P ∙ one (a * P) P in
-    go (a * P) (suc a * P) (A * P) m s
-  where
-    one : (x p : ℕ) → x + 1 * p ≡ x + p
-    one x p = omega arith
-
-    go : (x y z : ℕ) → y ≤ z → y ≡ x + P → x + d < z
-    go x y z m s = omega arith
-
-digits-lt : (y : List ℤ) → T (allFit y) → digits y < 64 ^ length y
+digits-below : (y : List ℤ) → T (allFit y) → digits y < 64 ^ length y
 unfolding digits
-digits-lt [] t = omega arith
-digits-lt (v ∷ y) t =
+digits-below [] t = omega arith
+digits-below (v ∷ y) t =
     subst (λ (n : ℕ). digit v * 64 ^ length y + digits y < n) (sym (next-power (length y)))
-    (below-next (digit v) (digits y) (64 ^ length y) 64 (digit-lt v (first-fits v y t)) (digits-lt y (rest-fits v y t)))
+    (digits-lt (digit-lt v (first-fits v y t)) (digits-below y (rest-fits v y t)))
 
 digits-first : (y z : List ℤ) → length y ≡ length z → T (allFit y) → T (allFit z) → digits y ≤ digits z → NotGreater y z
 unfolding NotGreater digits
@@ -109,7 +95,7 @@ digits-first (v ∷ y) (w ∷ z) e s t h =
     go (more a) next =
         absurd
         (clash (digit v * 64 ^ length z) (digit w * 64 ^ length z) (digits y) (digits z) h'
-        (below-next (digit w) (digits z) (64 ^ length z) (digit v) a (digits-lt z (rest-fits w z t))))
+        (digits-lt a (digits-below z (rest-fits w z t))))
       where
         clash : (a b d e : ℕ) → a + d ≤ b + e → b + e < a → ⊥
         clash a b d e h l = omega arith
@@ -134,7 +120,7 @@ pub grade-order : (y z : List ℤ) → length y ≡ 8 → length z ≡ 8 → T (
 grade-order y z a b s t h = go (trichotomy (norm y) (norm z))
   where
     top : digits z < 64 ^ 8
-    top = subst (λ (n : ℕ). digits z < 64 ^ n) b (digits-lt z t)
+    top = subst (λ (n : ℕ). digits z < 64 ^ n) b (digits-below z t)
 
     cut : (n d e g k : ℕ) → g ≡ n * 64 ^ 8 + d → k ≡ n * 64 ^ 8 + e → g ≤ k → d ≤ e
     cut n d e g k p q h = omega arith

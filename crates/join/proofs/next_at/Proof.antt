@@ -1,8 +1,10 @@
 -- `join::next_at` meets its contract. Assumes nothing.
 use mathlib.Core.Path.{_∙_}
+use Prim.Native.Nat.{_+_, _*_}
 use native.Mathlib.Omega.{arith}
 use borrow.Author.Needs.{needs}
-use Rattle.join.specs.Laws.{next-is, next-at-lt}
+use Rattle.trellis.specs.Laws.Path.{next-entry-lt}
+use Rattle.join.specs.Laws.{next-is}
 use Rattle.join.proofs.next_at.Statement.{statement}
 use Rattle.join.proofs.next_at.Tie as tie
 
@@ -26,7 +28,7 @@ returns c =
     let s = c .before .before in
     let a = s .args in
     let e = c .wide .ensures ∙ next-is (a .nx .now) (s .pre .1) (a .s) (a .b) (omega arith) (omega arith) in
-    (e, rw e (next-at-lt (a .s) (a .b) (omega arith)))
+    (e, rw e (next-entry-lt (a .s * 16 + a .b)))
 
 pub next-at-spec : {M : Type 1} → statement M
 next-at-spec = tie.close (tie.spec cast-wide mul-wide add-wide element-copy-out-wide wide-requires returns)

@@ -1,7 +1,7 @@
 -- Lists: one given place by place, as a loop fills it; what a loop that reads or stores a list has left; a list after another, and what a
 -- function makes of each element; the place at which a number stands. Assumes nothing.
 use mathlib.Core.Path.{_≡_, refl, ap, ap₂, _∙_}
-use mathlib.Core.Bool.{Bool, true, false}
+use mathlib.Core.Bool.{Bool, true, false, cond}
 use mathlib.Core.List.{List, [], _∷_, _++_, map}
 use Prim.Native.Nat.{ℕ, zero, suc, _+_, _-_, _<_, _≤_, suc-le-suc}
 use native.Mathlib.Nat.{not-suc-le-zero, le-of-suc-le-suc, zero-lt-suc, add-zero, add-suc, suc-add, le-of-eq}
@@ -86,7 +86,7 @@ map-at A B f d e (x ∷ xs) (suc k) h = map-at A B f d e xs k (le-of-suc-le-suc 
 seek-by : (P : ℕ → Type 0) (c x : ℕ) (xs : List ℕ) → (x ≡ c → P 0) → P (suc (seek c xs)) → P (seek c (x ∷ xs))
 seek-by P c x xs here on = go (eqb x c) refl
   where
-    go : (b : Bool) → eqb x c ≡ b → P (elim b [ true ↦ 0 | false ↦ suc (seek c xs) ])
+    go : (b : Bool) → eqb x c ≡ b → P (cond b 0 (suc (seek c xs)))
     go true e = here (eqb-true x c e)
     go false e = on
 
@@ -105,6 +105,6 @@ seek-holds c (x ∷ xs) =
 -- no place past one that holds the number is found
 pub seek-first : (c : ℕ) (xs : List ℕ) (i : ℕ) → i < length xs → getD xs i 0 ≡ c → seek c xs ≤ i
 seek-first c [] i h e = absurd (not-suc-le-zero h)
-seek-first c (x ∷ xs) zero h e = le-of-eq (ap (λ (b : Bool). elim b [ true ↦ 0 | false ↦ suc (seek c xs) ]) (eq-eqb x c e))
+seek-first c (x ∷ xs) zero h e = le-of-eq (ap (λ (b : Bool). cond b 0 (suc (seek c xs))) (eq-eqb x c e))
 seek-first c (x ∷ xs) (suc i) h e =
     seek-by (λ (k : ℕ). k ≤ suc i) c x xs (λ q. omega arith) (suc-le-suc (seek-first c xs i (le-of-suc-le-suc h) e))

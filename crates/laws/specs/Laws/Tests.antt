@@ -52,7 +52,7 @@ or-cases false b t = inr t
 
 -- c, where b holds
 abbrev pub implies : Bool → Bool → Bool
-implies b c = elim b [ true ↦ c | false ↦ true ]
+implies b c = cond b c true
 
 pub modus : (b c : Bool) → T b → T (implies b c) → T c
 modus true c h t = t

@@ -1,6 +1,6 @@
 -- A list of 2 ^ d numbers as a tree, so that a computed test reads an entry in d steps. Assumes nothing.
 use mathlib.Core.Path.{_≡_, _∙_, ap}
-use mathlib.Core.Bool.{Bool, true, false, not}
+use mathlib.Core.Bool.{Bool, true, false, cond, not}
 use mathlib.Core.List.{List}
 use Prim.Native.Nat.{ℕ, zero, suc, _+_, _-_, _^_, _<_, _≤_}
 use native.Mathlib.Omega.{arith}
@@ -16,13 +16,14 @@ abbrev pub build : ℕ → List ℕ → Tree
 build zero xs = leaf (getD xs 0 0)
 build (suc d) xs = node (build d (take (2 ^ d) xs)) (build d (drop (2 ^ d) xs))
 
+-- both halves are bound by a `let`, which waits: as arguments of `cond` both would be computed
 abbrev pub get : ℕ → Tree → ℕ → ℕ
 get zero (leaf x) i = x
 get zero (node l r) i = 0
 get (suc d) (leaf x) i = x
-get (suc d) (node l r) i = elim (ltb i (2 ^ d)) [ true ↦ get d l i | false ↦ get d r (i - 2 ^ d) ]
+get (suc d) (node l r) i = let low = get d l i in let high = get d r (i - 2 ^ d) in cond (ltb i (2 ^ d)) low high
 
-pick-by : (b : Bool) {x y z : ℕ} → (T b → x ≡ z) → (T (not b) → y ≡ z) → elim b [ true ↦ x | false ↦ y ] ≡ z
+pick-by : (b : Bool) {x y z : ℕ} → (T b → x ≡ z) → (T (not b) → y ≡ z) → cond b x y ≡ z
 pick-by true p q = p tt
 pick-by false p q = q tt
 

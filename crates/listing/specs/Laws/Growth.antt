@@ -1,7 +1,7 @@
 -- How the listing grows: one turn of `grow` and its end, and that `under` reaches every way to fill the open coordinates that stays below
 -- the cap. Assumes nothing.
 use mathlib.Core.Path.{_≡_, refl, ap}
-use mathlib.Core.Bool.{Bool, true, false}
+use mathlib.Core.Bool.{Bool, cond}
 use mathlib.Core.List.{List, [], _∷_, _++_, List·Memᴰ, List·Memᴰ·head, Memᴰ·append-left, Memᴰ·append-right, Memᴰ·cast}
 use Prim.Native.Nat.{ℕ, zero, suc, _+_, _*_, _-_, _^_, _<_, _≤_}
 use native.Mathlib.Nat.{add-zero, zero-add, add-assoc, add-mul, mul-add, mul-comm, mul-assoc, not-suc-le-zero}
@@ -22,7 +22,7 @@ module _ (f : ℕ → List ℕ) (base r n : ℕ) where
   pub grow-more : base + sq r < cap → grow f base r (suc n) ≡ f r ++ grow f base (r + 1) n
   unfolding grow
   grow-more h =
-      ap (λ (b : Bool). elim b [ true ↦ f r ++ grow f base (r + 1) n | false ↦ [] ]) (lt-ltb (base + sq r) cap h)
+      ap (λ (b : Bool). cond b (f r ++ grow f base (r + 1) n) []) (lt-ltb (base + sq r) cap h)
 
   pub grow-stop : cap ≤ base + sq r → grow f base r n ≡ []
   unfolding grow
@@ -30,7 +30,7 @@ module _ (f : ℕ → List ℕ) (base r n : ℕ) where
     where
       go : (m : ℕ) → grow f base r m ≡ []
       go zero = refl
-      go (suc m) = ap (λ (b : Bool). elim b [ true ↦ f r ++ grow f base (r + 1) m | false ↦ [] ]) (le-ltb (base + sq r) cap h)
+      go (suc m) = ap (λ (b : Bool). cond b (f r ++ grow f base (r + 1) m) []) (le-ltb (base + sq r) cap h)
 
 -- what f lists for the rank r + d is among what is listed from the rank r on: a rank below it costs less, so none ends the branch before
 grown : (f : ℕ → List ℕ) (base x n d r : ℕ) → d < n → base + sq (r + d) < cap → List·Memᴰ x (f (r + d)) → List·Memᴰ x (grow f base r n)

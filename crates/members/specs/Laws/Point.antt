@@ -22,6 +22,7 @@ use Rattle.trellis.specs.Laws.Code.{word-lt, bytes-even}
 use Rattle.trellis.specs.Tables.{prefixes, middles, nexts, suffixes}
 use Rattle.trellis.specs.Trellis.{prefixOf, middleOf, nextOf, suffixOf, middleSets, s8Of, b1Of, b2Of, b3Of}
 use Rattle.trellis.specs.Laws.Path.{path-at, first-at, second-at, third-at, prefix-lt, middle-lt, suffix-lt, next-lt}
+use Rattle.trellis.specs.Laws.Rows.{prefix-read, middle-read, next-read, suffix-read}
 use Rattle.trellis.specs.Laws.Back.{label-parts}
 use Rattle.trellis.specs.Laws.Trio.{trio-fits}
 use Rattle.tetra.specs.Lattice.{trio, Codeword, sectionRanks, inOwnClass, HasWord}
@@ -39,7 +40,6 @@ use Rattle.search.specs.Join.{midAt, lastAt}
 use Rattle.search.specs.Block as block
 use Rattle.nearest.specs.Laws.Sections.{bit-a, bit-b, bit-c, up8, up16, up24, all24, turn, glue, glue1, glue2, glue3}
 use Rattle.nearest.specs.Laws.Winner.{mid-half, mid-bit, end-half, end-rest}
-use Rattle.nearest.specs.Laws.TableFacts.{prefix-read, middle-read, next-read, suffix-read}
 use Rattle.members.specs.Laws.Ranks.{class-in, middle-in, member-class}
 use Rattle.members.specs.Laws.Paths.{Through}
 

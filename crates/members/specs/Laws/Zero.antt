@@ -13,6 +13,7 @@ use lib.Pow.{pow-pos}
 use lib.ListN.{getD}
 use lib.IntN.{ℤ, pos, negsuc}
 use lib.Ieee.{Float, nan, fin, binary64, fits, unlike, span, climb, size, odd, units, round, neg, sum, add, sub, mul, div, lt, ofInt}
+use lib.Ieee.Bits.{is-false}
 use lib.Ieee.Scale.{finite}
 use Rattle.laws.specs.Laws.Tests.{upto, below, is-true, split3, split4, eq→eqb, or-else, or-left, or-right, and-in}
 use Rattle.rank.specs.Coord.{rankOf}
@@ -147,15 +148,11 @@ all-order false true = tt
 all-order true false = tt
 all-order true true = tt
 
-not-true : (b : Bool) → T (not b) → b ≡ false
-not-true true h = absurd h
-not-true false h = refl
-
 order-at : (s r : Bool) → (lt (regF s 0) (regF r 2) ≡ true) × (lt (regF s 0) (regF r 0) ≡ false) × (lt (regF s 2) (regF r 0) ≡ false)
 unfolding order
 order-at s r =
     let q = split3 (lt (regF s 0) (regF r 2)) (not (lt (regF s 0) (regF r 0))) (not (lt (regF s 2) (regF r 0))) (all-order s r) in
-    (is-true _ (q .0), not-true _ (q .1), not-true _ (q .2))
+    (is-true _ (q .0), is-false _ (q .1), is-false _ (q .2))
 
 -- ---- ranks of at most 1 are within the middle's bound, and so is what costs less
 square-le : (r m : ℕ) → 2 * r + 1 ≤ m → sq r ≤ m * m

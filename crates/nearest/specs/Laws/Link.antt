@@ -23,6 +23,7 @@ use Rattle.trellis.specs.Code.{codewordOf, columns, first, second, third}
 use Rattle.trellis.specs.Laws.Code.{label-low, word-lt, bytes-even}
 use Rattle.trellis.specs.Trellis.{prefixOf, middleOf, nextOf, suffixOf}
 use Rattle.trellis.specs.Laws.Path.{path-at, first-at, second-at, third-at}
+use Rattle.trellis.specs.Laws.Rows.{prefix-read, middle-read, next-read, suffix-read}
 use Rattle.tetra.specs.Lattice.{trio, LatticePoint, section, sectionRanks, inOwnClass, HasWord}
 use Rattle.tetra.specs.Tetra.{natural}
 use Rattle.tetra.specs.Laws.Orders.{trio-length, natural-length, trio-natural, parity-trio, parity-natural, uniform-at, at-uniform, k-order}
@@ -35,7 +36,7 @@ use Rattle.nearest.specs.Laws.Sums.{sum-same}
 use Rattle.nearest.specs.Laws.Keys.{member-self, member-is}
 use Rattle.nearest.specs.Laws.Premises.{HasRows}
 use Rattle.nearest.specs.Laws.Sections.{pathOf, LeechTrio, point-of, bit-a, bit-b, bit-c}
-use Rattle.nearest.specs.Laws.TableFacts.{prefix-read, middle-read, next-read, suffix-read, tables-bytes}
+use Rattle.nearest.specs.Laws.TableFacts.{tables-bytes}
 use Rattle.nearest.specs.Laws.Packed.{class-bound, cut-size, cut-below, bits-at, bits-from, k-sum-is, row-of, class-of}
 
 -- ---- the codeword by its path

@@ -1,15 +1,13 @@
 -- The facts of the search's constant tables that the theorem asks for, the fallbacks as members of their regions. Assumes nothing.
-use mathlib.Core.Path.{_≡_, ap, _∙_, subst}
-use Prim.Native.Nat.{ℕ, _+_, _*_, _/_, _%_, _<_}
-use native.Mathlib.Nat.{le-refl, mod-lt, zero-lt-suc, mul-comm}
+use mathlib.Core.Path.{_∙_, subst}
+use Prim.Native.Nat.{ℕ, _<_}
+use native.Mathlib.Nat.{le-refl}
 use native.Mathlib.Omega.{arith}
 use lib.Dec.{lit≤}
-use lib.ListN.{getD}
 use Rattle.rank.specs.Vector.{unpack}
 use Rattle.rank.specs.Laws.Vector.{unpack-at, below-at}
-use Rattle.trellis.specs.Tables.{prefixes, middles, nexts, suffixes}
-use Rattle.trellis.specs.Trellis.{prefixOf, middleOf, nextOf, suffixOf}
-use Rattle.trellis.specs.Laws.Path.{row-at, prefix-lt, middle-lt, next-lt}
+use Rattle.trellis.specs.Laws.Path.{prefix-lt, middle-lt, next-entry-lt}
+use Rattle.trellis.specs.Laws.Rows.{prefix-read, middle-read}
 use Rattle.search.specs.Tables.{tables}
 use Rattle.search.specs.Laws.Tables.{entry-at, entry-byte}
 use Rattle.fallbacks.specs.Region.{InRegion, byteOf, keyOf}
@@ -20,23 +18,6 @@ use Rattle.nearest.specs.Laws.Winner.{GoodTables}
 use Rattle.nearest.specs.Laws.Premises.{MoreTables}
 use Rattle.nearest.specs.Laws.Sections.{Bytes}
 
--- ---- the trellis' tables read at one index
-pub prefix-read : (s b : ℕ) → b < 2 → prefixOf s b ≡ getD prefixes (2 * s + b) 0
-unfolding prefixOf
-prefix-read s b h = row-at 2 prefixes s b h
-
-pub middle-read : (s b : ℕ) → b < 16 → middleOf s b ≡ getD middles (s * 16 + b) 0
-unfolding middleOf
-middle-read s b h = row-at 16 middles s b h ∙ ap (λ (i : ℕ). getD middles (i + b) 0) (mul-comm 16 s)
-
-pub next-read : (s b : ℕ) → b < 16 → nextOf s b ≡ getD nexts (s * 16 + b) 0
-unfolding nextOf
-next-read s b h = row-at 16 nexts s b h ∙ ap (λ (i : ℕ). getD nexts (i + b) 0) (mul-comm 16 s)
-
-pub suffix-read : (s b : ℕ) → b < 2 → suffixOf s b ≡ getD suffixes (2 * s + b) 0
-unfolding suffixOf
-suffix-read s b h = row-at 2 suffixes s b h
-
 -- ---- bytes
 pub tables-bytes : Bytes tables
 tables-bytes =
@@ -46,17 +27,9 @@ tables-bytes =
     }
 
 -- ---- branches: the state that each leads to, and its middle entry, which has its byte
-next-at : (k : ℕ) → getD nexts k 0 < 64
-next-at k =
-    subst (λ (n : ℕ). n < 64) (next-read (k / 16) (k % 16) (mod-lt k (zero-lt-suc 15)) ∙ ap (λ (i : ℕ). getD nexts i 0) (whole k))
-    (next-lt (k / 16) (k % 16))
-  where
-    whole : (k : ℕ) → k / 16 * 16 + k % 16 ≡ k
-    whole k = omega arith
-
 pub tables-good : GoodTables tables
 tables-good =
-    record { ix-lt = λ k h. omega (arith, entry-at k h); nxt-lt = λ k h. next-at k; ix-byte = entry-byte }
+    record { ix-lt = λ k h. omega (arith, entry-at k h); nxt-lt = λ k h. next-entry-lt k; ix-byte = entry-byte }
 
 -- ---- fallbacks: members of their regions, so a byte of the state, ranks below 8, the class of the region
 pub entry-in : (kind p r st : ℕ) → kind < 2 → p < 2 → r < 2 → st < 64 → InRegion kind r st (byteOf kind p r st) (keyOf kind p r st)

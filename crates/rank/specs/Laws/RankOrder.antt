@@ -1,6 +1,6 @@
 -- The rank in closed form: rankOf, which counts, is rankBy, which divides. Assumes nothing.
 use mathlib.Core.Path.{_≡_, refl, ap, ap₂, sym, _∙_}
-use mathlib.Core.Bool.{Bool, true, false}
+use mathlib.Core.Bool.{Bool, true, false, cond}
 use mathlib.Core.List.{List, [], _∷_}
 use Prim.Native.Nat.{ℕ, zero, suc, _+_, _*_, _-_, _/_, _%_, _<_}
 use native.Mathlib.Omega.{arith}
@@ -23,13 +23,13 @@ pattern : List ℕ
 pattern = 0 ∷ 1 ∷ 3 ∷ 2 ∷ 2 ∷ 3 ∷ 1 ∷ 0 ∷ []
 
 abbrev turned : ℕ → ℕ → ℕ
-turned b h = elim (eqb b 0) [ true ↦ (h + 1) % 4 | false ↦ 3 - h ]
+turned b h = cond (eqb b 0) ((h + 1) % 4) (3 - h)
 
 residue-turned : (m : ℕ) → modZ (outward (suc m)) 4 ≡ turned (m % 2) (m / 2 % 4)
 residue-turned m = go (eqb (m % 2) 0)
   where
-    go : (b : Bool) → modZ (elim b [ true ↦ pos (m / 2 + 1) | false ↦ negsuc (m / 2) ]) 4
-        ≡ elim b [ true ↦ (m / 2 % 4 + 1) % 4 | false ↦ 3 - m / 2 % 4 ]
+    go : (b : Bool) → modZ (cond b (pos (m / 2 + 1)) (negsuc (m / 2))) 4
+        ≡ cond b ((m / 2 % 4 + 1) % 4) (3 - m / 2 % 4)
     go true = omega arith
     go false = omega arith
 
@@ -63,7 +63,7 @@ begun : ℕ → ℕ → ℕ
 begun o j = getD parts (8 * o + j) 0
 
 abbrev hit : ℕ → ℕ → ℕ
-hit r o = elim (eqb r o) [ true ↦ 1 | false ↦ 0 ]
+hit r o = cond (eqb r o) 1 0
 
 steps : ℕ → ℕ → Bool
 steps o j = eqb (hit (getD pattern j 0) o + begun o j) (2 * ((j + 1) / 8) + begun o ((j + 1) % 8))

@@ -1,6 +1,6 @@
 -- Every rank vector that meets its class's bound is a row. Assumes nothing.
 use mathlib.Core.Path.{_≡_, _∙_, ap, sym}
-use mathlib.Core.Bool.{Bool, true, false, _&&_}
+use mathlib.Core.Bool.{Bool, cond, _&&_}
 use mathlib.Core.List.{List, [], _∷_}
 use Prim.Native.Nat.{ℕ, zero, suc, _+_, _^_, _<_, _≤_}
 use native.Mathlib.Omega.{arith}
@@ -41,11 +41,11 @@ abbrev forksOf : ℕ → List ℕ → Forks
 forksOf zero ws = tip
 forksOf (suc d) ws = fork (unpack 8 (getD ws (2 ^ d) 0)) (forksOf d (take (2 ^ d) ws)) (forksOf d (drop (2 ^ d) ws))
 
--- where v would stand among 2 ^ d rows, counted from lo
+-- where v would stand among 2 ^ d rows, counted from lo. A `let` waits: as arguments of `cond` both halves would be searched
 abbrev seek : ℕ → List ℕ → ℕ → Forks → ℕ
 seek zero v lo t = lo
 seek (suc d) v lo tip = lo
-seek (suc d) v lo (fork u l r) = elim (inOrder v u) [ true ↦ seek d v lo l | false ↦ seek d v (lo + 2 ^ d) r ]
+seek (suc d) v lo (fork u l r) = let low = seek d v lo l in let high = seek d v (lo + 2 ^ d) r in cond (inOrder v u) low high
 
 rowTree : Tree
 unfolding rows

@@ -2,8 +2,8 @@
 -- (`sorted-same`), each before all that follow by cost and then by ranks (`sorted-ordered`). Without this the table,
 -- which needs the first 2,048 of each class alone, would not notice if rows were left out behind them. Assumes
 -- nothing.
-use mathlib.Core.Path.{_≡_, refl, subst, sym, ap₂, _∙_}
-use mathlib.Core.Bool.{Bool, true, false}
+use mathlib.Core.Path.{_≡_, subst, sym, ap, ap₂, _∙_}
+use mathlib.Core.Bool.{Bool, true, false, cond}
 use mathlib.Core.Logic.{_⊎_, inl, inr, _↔_}
 use mathlib.Core.List.{
   List,
@@ -23,7 +23,8 @@ use Prim.Native.Nat.{ℕ, zero, suc, _+_, _^_, _<_, _≤_}
 use native.Mathlib.Nat.{pow-suc, not-suc-le-zero}
 use native.Mathlib.Omega.{arith}
 use lib.Dec.{T}
-use lib.ListN.{length, getD, take, drop, take-append-drop, length-drop}
+use lib.ListN.{length, getD, take, drop, length-append, take-append-drop, length-drop}
+use lib.Seq.{take-all}
 use Rattle.laws.specs.Laws.Tables.{chain, chain-at}
 use Rattle.rank.specs.Vector.{unpack, before}
 use Rattle.rank.specs.Laws.Vector.{before-trans}
@@ -32,12 +33,10 @@ use Rattle.listing.specs.Laws.Listed.{count}
 use Rattle.rows_listed.specs.Sorted.{merge, sort, sorted}
 
 -- ---- no row is lost
-abbrev pick : Bool → List ℕ → List ℕ → List ℕ
-pick t u v = elim t [ true ↦ u | false ↦ v ]
-
-in-pick : (x : ℕ) (t : Bool) (u v : List ℕ) → List·Memᴰ x u → List·Memᴰ x v → List·Memᴰ x (pick t u v)
-in-pick x true u v m n = m
-in-pick x false u v m n = n
+-- what holds of both lists holds of the chosen one
+either : (P : List ℕ → Type 0) (t : Bool) (u v : List ℕ) → P u → P v → P (cond t u v)
+either P true u v p q = p
+either P false u v p q = q
 
 -- a row is the first, or stands past it
 on : (x a : ℕ) (u v : List ℕ) → (List·Memᴰ x u → List·Memᴰ x v)
@@ -52,7 +51,7 @@ merge-left x zero xs ys h m = absurd (not-suc-le-zero h)
 merge-left x (suc n) [] ys h m = absurd (List·Memᴰ·not-nil m)
 merge-left x (suc n) (a ∷ xs) [] h m = m
 merge-left x (suc n) (a ∷ xs) (b ∷ ys) h m =
-    in-pick x (before (unpack 8 b) (unpack 8 a)) (b ∷ merge n (a ∷ xs) ys) (a ∷ merge n xs (b ∷ ys))
+    either (λ (l : List ℕ). List·Memᴰ x l) (before (unpack 8 b) (unpack 8 a)) (b ∷ merge n (a ∷ xs) ys) (a ∷ merge n xs (b ∷ ys))
     (List·Memᴰ·tail (merge-left x n (a ∷ xs) ys (omega arith) m))
     (on x a xs (merge n xs (b ∷ ys)) (merge-left x n xs (b ∷ ys) (omega arith)) (List·Memᴰ·cases-cons m))
 
@@ -63,13 +62,9 @@ merge-right x zero xs ys h m = absurd (not-suc-le-zero h)
 merge-right x (suc n) [] ys h m = m
 merge-right x (suc n) (a ∷ xs) [] h m = absurd (List·Memᴰ·not-nil m)
 merge-right x (suc n) (a ∷ xs) (b ∷ ys) h m =
-    in-pick x (before (unpack 8 b) (unpack 8 a)) (b ∷ merge n (a ∷ xs) ys) (a ∷ merge n xs (b ∷ ys))
+    either (λ (l : List ℕ). List·Memᴰ x l) (before (unpack 8 b) (unpack 8 a)) (b ∷ merge n (a ∷ xs) ys) (a ∷ merge n xs (b ∷ ys))
     (on x b ys (merge n (a ∷ xs) ys) (merge-right x n (a ∷ xs) ys (omega arith)) (List·Memᴰ·cases-cons m))
     (List·Memᴰ·tail (merge-right x n xs (b ∷ ys) (omega arith) m))
-
-pick-length : (k : ℕ) (t : Bool) (u v : List ℕ) → length u ≡ k → length v ≡ k → length (pick t u v) ≡ k
-pick-length k true u v h l = h
-pick-length k false u v h l = l
 
 merge-length : (n : ℕ) (xs ys : List ℕ) → length xs + length ys < n
     → length (merge n xs ys) ≡ length xs + length ys
@@ -78,7 +73,7 @@ merge-length zero xs ys h = absurd (not-suc-le-zero h)
 merge-length (suc n) [] ys h = omega arith
 merge-length (suc n) (a ∷ xs) [] h = omega arith
 merge-length (suc n) (a ∷ xs) (b ∷ ys) h =
-    pick-length (length (a ∷ xs) + length (b ∷ ys)) (before (unpack 8 b) (unpack 8 a))
+    either (λ (l : List ℕ). length l ≡ length (a ∷ xs) + length (b ∷ ys)) (before (unpack 8 b) (unpack 8 a))
     (b ∷ merge n (a ∷ xs) ys) (a ∷ merge n xs (b ∷ ys))
     (omega (arith, merge-length n (a ∷ xs) ys (omega arith)))
     (omega (arith, merge-length n xs (b ∷ ys) (omega arith)))
@@ -89,17 +84,10 @@ take-most (suc n) [] = omega arith
 take-most (suc n) (w ∷ ws) = omega (arith, take-most n ws)
 
 halves : (n : ℕ) (ws : List ℕ) → length (take n ws) + length (drop n ws) ≡ length ws
-halves zero ws = omega arith
-halves (suc n) [] = omega arith
-halves (suc n) (w ∷ ws) = omega (arith, halves n ws)
+halves n ws = sym (length-append (take n ws) (drop n ws)) ∙ ap length (take-append-drop n ws)
 
 drop-most : (d : ℕ) (ws : List ℕ) → length ws ≤ 2 ^ suc d → length (drop (2 ^ d) ws) ≤ 2 ^ d
 drop-most d ws h = omega (arith, length-drop (2 ^ d) ws, pow-suc 2 d)
-
-one-length : (ws : List ℕ) → length ws ≤ 1 → length (take 1 ws) ≡ length ws
-one-length [] h = refl
-one-length (w ∷ []) h = refl
-one-length (w ∷ v ∷ ws) h = absurd (omega arith)
 
 -- both halves, sorted, and room to merge them
 room : (d : ℕ) (a b u v : List ℕ) → length a ≤ 2 ^ d → length b ≤ 2 ^ d
@@ -109,7 +97,7 @@ room d a b u v ha hb ea eb = omega (arith, pow-suc 2 d)
 
 sort-length : (d : ℕ) (ws : List ℕ) → length ws ≤ 2 ^ d → length (sort d ws) ≡ length ws
 unfolding sort
-sort-length zero ws h = one-length ws h
+sort-length zero ws h = ap length (take-all 1 ws h)
 sort-length (suc d) ws h =
     let a = take (2 ^ d) ws in
     let b = drop (2 ^ d) ws in
@@ -120,11 +108,6 @@ sort-length (suc d) ws h =
     merge-length (2 ^ suc d + 1) (sort d a) (sort d b) (room d a b (sort d a) (sort d b) ha hb ea eb)
     ∙ ap₂ (λ (m n : ℕ). m + n) ea eb
     ∙ halves (2 ^ d) ws
-
-alone : (x : ℕ) (ws : List ℕ) → length ws ≤ 1 → List·Memᴰ x ws → List·Memᴰ x (take 1 ws)
-alone x [] h m = m
-alone x (w ∷ []) h m = m
-alone x (w ∷ v ∷ ws) h m = absurd (omega arith)
 
 by-halves : (x k : ℕ) (P : Type 0) (ws : List ℕ)
     → (List·Memᴰ x (take k ws) → P) → (List·Memᴰ x (drop k ws) → P) → List·Memᴰ x ws → P
@@ -137,7 +120,7 @@ by-halves x k P ws f g m =
 
 sort-keeps : (x d : ℕ) (ws : List ℕ) → length ws ≤ 2 ^ d → List·Memᴰ x ws → List·Memᴰ x (sort d ws)
 unfolding sort
-sort-keeps x zero ws h m = alone x ws h m
+sort-keeps x zero ws h m = subst (λ (l : List ℕ). List·Memᴰ x l) (sym (take-all 1 ws h)) m
 sort-keeps x (suc d) ws h m =
     let a = take (2 ^ d) ws in
     let b = drop (2 ^ d) ws in
@@ -150,11 +133,6 @@ sort-keeps x (suc d) ws h m =
     m
 
 -- ---- no row is added
-from-pick : (x : ℕ) (P : Type 0) (t : Bool) (u v : List ℕ)
-    → (List·Memᴰ x u → P) → (List·Memᴰ x v → P) → List·Memᴰ x (pick t u v) → P
-from-pick x P true u v f g m = f m
-from-pick x P false u v f g m = g m
-
 -- from the first row of either list, or from what is merged after it
 was-left : (x a : ℕ) (xs ys l : List ℕ)
     → (List·Memᴰ x l → List·Memᴰ x xs ⊎ List·Memᴰ x ys) → List·Memᴰ x (a ∷ l) → List·Memᴰ x (a ∷ xs) ⊎ List·Memᴰ x ys
@@ -186,7 +164,7 @@ merge-from x zero xs ys m = absurd (List·Memᴰ·not-nil m)
 merge-from x (suc n) [] ys m = inr m
 merge-from x (suc n) (a ∷ xs) [] m = inl m
 merge-from x (suc n) (a ∷ xs) (b ∷ ys) m =
-    from-pick x (List·Memᴰ x (a ∷ xs) ⊎ List·Memᴰ x (b ∷ ys)) (before (unpack 8 b) (unpack 8 a)) (b ∷ merge n (a ∷ xs) ys)
+    either (λ (l : List ℕ). List·Memᴰ x l → List·Memᴰ x (a ∷ xs) ⊎ List·Memᴰ x (b ∷ ys)) (before (unpack 8 b) (unpack 8 a)) (b ∷ merge n (a ∷ xs) ys)
     (a ∷ merge n xs (b ∷ ys))
     (was-right x b (a ∷ xs) ys (merge n (a ∷ xs) ys) (merge-from x n (a ∷ xs) ys))
     (was-left x a xs (b ∷ ys) (merge n xs (b ∷ ys)) (merge-from x n xs (b ∷ ys)))

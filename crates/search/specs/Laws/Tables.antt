@@ -8,8 +8,7 @@ use Rattle.laws.specs.Laws.Lists.{tab-at}
 use Rattle.rank.specs.Vector.{boundCost, boundCut, middleCost, middleCut}
 use Rattle.trellis.specs.Tables.{middles}
 use Rattle.trellis.specs.Trellis.{middleOf, middleSets}
-use Rattle.trellis.specs.Laws.Path.{row-at}
-use Rattle.trellis.specs.Laws.Rows.{zeroMiddles, setFirsts, middle-sum}
+use Rattle.trellis.specs.Laws.Rows.{zeroMiddles, setFirsts, middle-sum, middle-read}
 use Rattle.search.specs.declared.Closed.{Closed}
 use Rattle.search.specs.Bound.{lexNum}
 use Rattle.search.specs.Tables.{tables, branchEntries}
@@ -40,10 +39,9 @@ same-set s b h k =
     sym (middle-sum (8 * (s / 8)) b (omega arith) k) ∙ ap (λ (n : ℕ). bitXor (getD zeroMiddles b 0) (getD setFirsts n 0)) q ∙ middle-sum s b h k
 
 middle-at : (i : ℕ) → middleOf (i / 16) (i % 16) ≡ getD middles i 0
-unfolding middleOf
 middle-at i =
-    let q : 16 * (i / 16) + i % 16 ≡ i = omega arith in
-    row-at 16 middles (i / 16) (i % 16) (omega arith) ∙ ap (λ (n : ℕ). getD middles n 0) q
+    let q : i / 16 * 16 + i % 16 ≡ i = omega arith in
+    middle-read (i / 16) (i % 16) (omega arith) ∙ ap (λ (n : ℕ). getD middles n 0) q
 
 pub entry-byte : (i : ℕ) → i < 1024 → getD middleSets (getD branchEntries i 0) 0 ≡ getD middles i 0
 entry-byte i h =

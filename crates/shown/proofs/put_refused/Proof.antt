@@ -5,9 +5,8 @@ use mathlib.Core.Path.{_≡_}
 use mathlib.Core.List.{_++_, append-assoc}
 use Prim.Native.Nat.{_≤_}
 use lib.ListN.{length, length-append}
-use Rattle.text.specs.Text.{bytes, decimal}
+use Rattle.text.specs.Text.{bytes, decimal, refusedText}
 use Rattle.text.specs.Laws.Text.{decimal-fits}
-use Rattle.shown.specs.Shown.{refusedText}
 use Rattle.text.specs.Laws.Placed.{Written, written-none, written-more, written-as}
 use Rattle.shown.proofs.put_refused.Statement.{statement}
 use Rattle.shown.proofs.put_refused.Tie as tie

@@ -3,7 +3,8 @@ use borrow.Author.Needs.{needs}
 use native.Mathlib.Omega.{arith}
 use mathlib.Core.Path.{ap, _∙_}
 use Prim.Native.Nat.{_≤_}
-use Rattle.shown.specs.Shown.{refusedText, blockTexts, inArray}
+use Rattle.text.specs.Text.{refusedText}
+use Rattle.shown.specs.Shown.{blockTexts, inArray}
 use Rattle.shown.proofs.Printing.{prints-refused, few, prints-blocks, in-array}
 use Rattle.shown.proofs.unpage.Statement.{statement}
 use Rattle.shown.proofs.unpage.Tie as tie

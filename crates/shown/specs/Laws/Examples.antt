@@ -3,11 +3,11 @@ use mathlib.Core.Path.{_≡_, refl, ap}
 use mathlib.Core.List.{List, [], _∷_, _++_, map}
 use lib.IntN.{ℤ}
 use Rattle.laws.specs.Words.{tab}
-use Rattle.text.specs.Text.{bytes, decimal, signed, commas, listed}
+use Rattle.text.specs.Text.{bytes, decimal, signed, commas, listed, refusedText}
 use Rattle.tetra.specs.Points.{P}
 use Rattle.page.specs.Counts.{countOf, blockCounts, pageCounts}
 use Rattle.page.specs.Answer.{page, malformed, numberIn, wordsIn, countsIn}
-use Rattle.shown.specs.Shown.{blockText, blockTexts, refusedText, printed}
+use Rattle.shown.specs.Shown.{blockText, blockTexts, printed}
 
 pub example-prints : printed (page 128 (1 ∷ []))
     ≡ bytes "block=0\ncounts=1,1,1,1,1,1,1,1,1,1,1,1,1,1,1,1,1,1,1,1,1,1,1,-2\n"

@@ -1,11 +1,11 @@
--- Pieces put into a buffer: where there is room, where there is none, and one behind another. Assumes nothing.
+-- Pieces put into a buffer: where there is room, what tells that there is, and one behind another. Assumes nothing.
 use mathlib.Core.Path.{_≡_, refl, ap, sym, _∙_}
 use mathlib.Core.Bool.{Bool, true, false, cond}
 use mathlib.Core.List.{List, [], _++_}
-use Prim.Native.Nat.{ℕ, zero, suc, _+_, _-_, _<_, _≤_}
+use Prim.Native.Nat.{ℕ, zero, suc, _+_, _-_, _≤_}
 use native.Mathlib.Omega.{arith}
 use native.Mathlib.Nat.{zero-add, sub-zero, zero-sub, suc-sub-suc}
-use borrow.Author.Tests.{le-leb, lt-leb, leb-true}
+use borrow.Author.Tests.{le-leb, leb-true}
 use lib.Dec.{leb}
 use lib.ListN.{length, take, drop, replicate, length-append, length-replicate}
 use lib.Seq.{sets, length-sets, sets-eq, take-append-seam}
@@ -22,16 +22,7 @@ module _ (old : List ℕ) (at : ℕ) (piece : List ℕ) where
   unfolding placeBehind
   behind-fits room = rw (le-leb (at + length piece) (length old) room)
 
-  -- ---- there is none
-  pub placed-none : length old < at + length piece → placed old at piece ≡ old
-  unfolding placed
-  placed-none full = rw (lt-leb (at + length piece) (length old) full)
-
-  pub behind-none : length old < at + length piece → placeBehind old at piece ≡ length old + 1
-  unfolding placeBehind
-  behind-none full = rw (lt-leb (at + length piece) (length old) full)
-
-  -- ---- the place tells which of the two
+  -- ---- the place tells whether there is
   pub place-tells : placeBehind old at piece ≤ length old → at + length piece ≤ length old
   unfolding placeBehind
   place-tells = go (leb (at + length piece) (length old)) refl

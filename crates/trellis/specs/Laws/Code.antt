@@ -52,13 +52,6 @@ distinct x y hx hy e =
     sym (mod-eq-of-lt hx) ∙ sym (back-at x) ∙ ap (codewordOf backColumns) e ∙ back-at y ∙ mod-eq-of-lt hy
 
 -- ---- weights
-words-weights : map (λ (k : ℕ). tally k (map (weight 24) words)) (0 ∷ 8 ∷ 12 ∷ 16 ∷ 24 ∷ []) ≡ 1 ∷ 759 ∷ 2576 ∷ 759 ∷ 1 ∷ []
-unfolding words columns
-words-weights = refl
-
-pub weights : map (λ (k : ℕ). tally k (map (weight 24) codewords)) (0 ∷ 8 ∷ 12 ∷ 16 ∷ 24 ∷ []) ≡ 1 ∷ 759 ∷ 2576 ∷ 759 ∷ 1 ∷ []
-weights = rw codewords-are words-weights
-
 -- the weight of a codeword
 abbrev pub FiveWeights : ℕ → Type 0
 FiveWeights n = (n ≡ 0) ⊎ (n ≡ 8) ⊎ (n ≡ 12) ⊎ (n ≡ 16) ⊎ (n ≡ 24)
@@ -81,16 +74,21 @@ odds w = weight 8 (first w) % 2 + weight 8 (second w) % 2 + weight 8 (third w) %
 fair : ℕ → ℕ → Bool
 fair x w = (eqb x 0 || leb 8 (weight 24 w)) && (five (weight 24 w) && eqb (odds w) 0)
 
-all-fair : T (every fair 0 words)
+-- the test at each word, and how many words have which weight: in one, so that the words are made and weighed once
+all-weighed : T (every fair 0 words)
+    × (map (λ (k : ℕ). tally k (map (weight 24) words)) (0 ∷ 8 ∷ 12 ∷ 16 ∷ 24 ∷ []) ≡ 1 ∷ 759 ∷ 2576 ∷ 759 ∷ 1 ∷ [])
 unfolding fair words columns
-all-fair = tt
+all-weighed = (tt, refl)
+
+pub weights : map (λ (k : ℕ). tally k (map (weight 24) codewords)) (0 ∷ 8 ∷ 12 ∷ 16 ∷ 24 ∷ []) ≡ 1 ∷ 759 ∷ 2576 ∷ 759 ∷ 1 ∷ []
+weights = rw codewords-are (all-weighed .1)
 
 fair-at : (x : ℕ) → x < 4096
     → T (eqb x 0 || leb 8 (weight 24 (codewordOf columns x))) × T (five (weight 24 (codewordOf columns x))) × T (eqb (odds (codewordOf columns x)) 0)
 unfolding fair
 fair-at x h =
     let w = codewordOf columns x in
-    split3 (eqb x 0 || leb 8 (weight 24 w)) (five (weight 24 w)) (eqb (odds w) 0) (at-word fair all-fair x h)
+    split3 (eqb x 0 || leb 8 (weight 24 w)) (five (weight 24 w)) (eqb (odds w) 0) (at-word fair (all-weighed .0) x h)
 
 -- every nonzero codeword weighs at least 8
 pub heavy-at : (x : ℕ) → x < 4096 → x ≢ 0 → 8 ≤ weight 24 (codewordOf columns x)

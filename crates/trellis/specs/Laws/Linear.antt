@@ -19,7 +19,7 @@ bit : (x : ℕ) → x % 2 < 2
 bit x = omega arith
 
 -- a number taken or left by a bit fits where it did
-bit-lt : (c b n : ℕ) → c < 2 ^ n → b < 2 → c * b < 2 ^ n
+pub bit-lt : (c b n : ℕ) → c < 2 ^ n → b < 2 → c * b < 2 ^ n
 bit-lt c zero n h k = omega arith
 bit-lt c (suc zero) n h k = omega arith
 bit-lt c (suc (suc b)) n h k = absurd (omega arith)

@@ -84,6 +84,11 @@ pub next-lt : (s8 b2 : ℕ) → nextOf s8 b2 < 64
 unfolding nextOf nexts
 next-lt = row-lt 6 16 nexts tt
 
+-- and so is each entry of the table of next states
+pub next-entry-lt : (i : ℕ) → getD nexts i 0 < 64
+unfolding nexts
+next-entry-lt = entry-lt 6 nexts tt
+
 pub suffix-lt : (s16 b3 : ℕ) → suffixOf s16 b3 < 256
 unfolding suffixOf suffixes
 suffix-lt = row-lt 8 2 suffixes tt
@@ -113,21 +118,21 @@ all-on-path : T (every onPath 0 words)
 unfolding onPath treePath prefixTree middleTree nextTree suffixTree prefixes middles nexts suffixes words columns
 all-on-path = tt
 
-read : (d n : ℕ) (t : List ℕ) (s b : ℕ) → b < n → n * s + b < 2 ^ d → get d (build d t) (n * s + b) ≡ getD (row n t s) b 0
-read d n t s b h k = get-build d t (n * s + b) k ∙ sym (row-at n t s b h)
+tree-at : (d n : ℕ) (t : List ℕ) (s b : ℕ) → b < n → n * s + b < 2 ^ d → get d (build d t) (n * s + b) ≡ getD (row n t s) b 0
+tree-at d n t s b h k = get-build d t (n * s + b) k ∙ sym (row-at n t s b h)
 
-pub next-read : (x : ℕ) → get 10 nextTree (16 * s8Of x + b2Of x) ≡ s16Of x
+pub next-tree : (x : ℕ) → get 10 nextTree (16 * s8Of x + b2Of x) ≡ s16Of x
 unfolding nextTree nextOf
-next-read x = read 10 16 nexts (s8Of x) (b2Of x) (omega arith) (omega arith)
+next-tree x = tree-at 10 16 nexts (s8Of x) (b2Of x) (omega arith) (omega arith)
 
 tree-path : (x : ℕ) → treePath x ≡ path (s8Of x) (b1Of x) (b2Of x) (b3Of x)
 unfolding treePath prefixTree middleTree suffixTree prefixOf middleOf suffixOf
 tree-path x =
     rw (
-      read 7 2 prefixes (s8Of x) (b1Of x) (omega arith) (omega arith),
-      read 10 16 middles (s8Of x) (b2Of x) (omega arith) (omega arith),
-      next-read x,
-      read 7 2 suffixes (s16Of x) (b3Of x) (omega arith) (omega (arith, next-lt (s8Of x) (b2Of x))),
+      tree-at 7 2 prefixes (s8Of x) (b1Of x) (omega arith) (omega arith),
+      tree-at 10 16 middles (s8Of x) (b2Of x) (omega arith) (omega arith),
+      next-tree x,
+      tree-at 7 2 suffixes (s16Of x) (b3Of x) (omega arith) (omega (arith, next-lt (s8Of x) (b2Of x))),
     )
 
 low-at : (x : ℕ) → x < 4096 → codewordOf columns x ≡ path (s8Of x) (b1Of x) (b2Of x) (b3Of x)

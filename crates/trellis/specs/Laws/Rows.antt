@@ -1,22 +1,40 @@
--- The branches out of every state by those out of state 0: codewords add up, and so do their middle bytes and their states. One computed test
--- each. And the pairs of a table of two entries a state. Assumes nothing.
-use mathlib.Core.Path.{_≡_, _∙_, sym, ap, ap₂}
+-- The tables read at one index. The branches out of every state by those out of state 0: codewords add up, and so do their middle bytes and
+-- their states. One computed test each. And the pairs of a table of two entries a state. Assumes nothing.
+use mathlib.Core.Path.{_≡_, _∙_, sym, refl, ap, ap₂}
 use mathlib.Core.Bool.{Bool}
-use mathlib.Core.List.{List, []}
-use Prim.Native.Nat.{ℕ, _+_, _*_, _/_, _%_, _<_}
+use mathlib.Core.List.{List, [], _∷_}
+use Prim.Native.Nat.{ℕ, _+_, _*_, _/_, _%_, _<_, _≤_}
+use native.Mathlib.Nat.{mul-comm}
 use native.Mathlib.Omega.{arith}
 use lib.Dec.{T, eqb, eqb→eq}
-use lib.ListN.{length, getD, take}
-use lib.Seq.{getD-take}
+use lib.ListN.{length, getD, take, drop, length-drop}
+use lib.Seq.{getD-take, getD-drop}
 use lib.Bits.{bitXor, xor-comm}
 use Rattle.laws.specs.Laws.Tests.{upto, below}
 use Rattle.laws.specs.Laws.Tables.{every, at}
 use Rattle.laws.specs.Words.{tab}
 use Rattle.laws.specs.Laws.Lists.{tab-at, tab-eq}
-use Rattle.trellis.specs.Tables.{middles, nexts}
-use Rattle.trellis.specs.Trellis.{row, pairsOf, middleOf, nextOf, middleSets, firstNexts}
+use Rattle.trellis.specs.Tables.{prefixes, middles, nexts, suffixes}
+use Rattle.trellis.specs.Trellis.{row, pairsOf, prefixOf, middleOf, nextOf, suffixOf, middleSets, firstNexts}
 use Rattle.trellis.specs.Laws.Xor.{xor-assoc}
 use Rattle.trellis.specs.Laws.Path.{row-at, row-length, middles-length, nexts-length}
+
+-- ---- the tables read at one index
+pub prefix-read : (s b : ℕ) → b < 2 → prefixOf s b ≡ getD prefixes (2 * s + b) 0
+unfolding prefixOf
+prefix-read s b h = row-at 2 prefixes s b h
+
+pub middle-read : (s b : ℕ) → b < 16 → middleOf s b ≡ getD middles (s * 16 + b) 0
+unfolding middleOf
+middle-read s b h = row-at 16 middles s b h ∙ ap (λ (i : ℕ). getD middles (i + b) 0) (mul-comm 16 s)
+
+pub next-read : (s b : ℕ) → b < 16 → nextOf s b ≡ getD nexts (s * 16 + b) 0
+unfolding nextOf
+next-read s b h = row-at 16 nexts s b h ∙ ap (λ (i : ℕ). getD nexts (i + b) 0) (mul-comm 16 s)
+
+pub suffix-read : (s b : ℕ) → b < 2 → suffixOf s b ≡ getD suffixes (2 * s + b) 0
+unfolding suffixOf
+suffix-read s b h = row-at 2 suffixes s b h
 
 -- ---- a test along each of the 64 rows of a table of sixteen entries a row
 along : (t : List ℕ) (f : ℕ → ℕ → ℕ → Bool) → length t ≡ 1024 → T (upto 64 (λ (s : ℕ). every (f s) 0 (row 16 t s)))
@@ -97,3 +115,15 @@ first-nexts =
 pub pair-at : (t : List ℕ) (s b : ℕ) → s < 64 → b < 2 → getD (getD (pairsOf t) s []) b 0 ≡ getD t (2 * s + b) 0
 unfolding pairsOf
 pair-at t s b h k = ap (λ (l : List ℕ). getD l b 0) (tab-at (List ℕ) [] (row 2 t) 64 s h) ∙ row-at 2 t s b k
+
+-- and a pair is its two entries
+two-first : (l : List ℕ) → 2 ≤ length l → getD l 0 0 ∷ getD l 1 0 ∷ [] ≡ take 2 l
+two-first [] h = absurd (omega arith)
+two-first (x ∷ []) h = absurd (omega arith)
+two-first (x ∷ y ∷ l) h = refl
+
+pub pair-is : (t : List ℕ) (s : ℕ) → length t ≡ 128 → s < 64 → getD t (2 * s) 0 ∷ getD t (2 * s + 1) 0 ∷ [] ≡ row 2 t s
+pair-is t s e h =
+    let z : 2 * s ≡ 2 * s + 0 = omega arith in
+    ap₂ (λ (x y : ℕ). x ∷ y ∷ []) (ap (λ (n : ℕ). getD t n 0) z ∙ sym (getD-drop (2 * s) t 0 0)) (sym (getD-drop (2 * s) t 1 0))
+    ∙ two-first (drop (2 * s) t) (omega (arith, length-drop (2 * s) t))

@@ -11,16 +11,16 @@ use lib.ListN.{length, getD, length-map}
 use lib.Pow.{pow-pos, split}
 use lib.Bits.{bitXor, xor-comm, xor-self, xor-zero-r, xor-shifted}
 use Rattle.laws.specs.Laws.Tests.{and-left, and-right, split3, implies, modus, eq→eqb, or-left, or-right}
-use Rattle.laws.specs.Laws.Tables.{every, at}
+use Rattle.laws.specs.Laws.Tables.{every2}
 use Rattle.laws.specs.Laws.Trees.{Tree, build, get, get-build}
 use Rattle.trellis.specs.Laws.Xor.{xor-zero}
 use Rattle.trellis.specs.Code.{codewordOf, columns}
 use Rattle.trellis.specs.Trellis.{s8Of, b2Of, s16Of, nextOf}
 use Rattle.trellis.specs.Sharing.{OneSide, Sum, none, plus, Share, Numbered}
 use Rattle.trellis.specs.Laws.Linear.{linear, compose, powers, powers-word, word-low, word-zero}
-use Rattle.trellis.specs.Laws.Path.{nextTree, next-read, next-lt}
+use Rattle.trellis.specs.Laws.Path.{nextTree, next-tree, next-lt}
 use Rattle.trellis.specs.Tables.{nexts}
-use Rattle.trellis.specs.Laws.Words.{words, wordsOf, words-at, words-length, at-word}
+use Rattle.trellis.specs.Laws.Words.{words, wordsOf, words-at, words-length, at-words}
 use Rattle.trellis.specs.Laws.Code.{label-low, back-at, backColumns}
 use Rattle.trellis.specs.Laws.Ascending.{ascBy, asc-lt}
 
@@ -152,23 +152,6 @@ leastColumns8 = 129 ∷ 258 ∷ 516 ∷ 8 ∷ 16 ∷ 32 ∷ []
 least8 : Tree
 least8 = build 6 (leastWords leastColumns8)
 
-test8 : ℕ → ℕ → Bool
-test8 z w = cutTest 8 7 least8 z w (s8Of z)
-
-all8 : T (every test8 0 words)
-unfolding test8 words columns least8 leastWords leastColumns8
-all8 = tt
-
-up8 : T (ascBy suc 0 (leastWords leastColumns8))
-unfolding columns leastWords leastColumns8
-up8 = tt
-
-pub states-8 : Numbered 8 s8Of
-unfolding test8 least8 leastColumns8
-states-8 =
-    numbered 8 7 s8Of (powers 0 6) leastColumns8 least8 (λ x. sym (powers-word 6 0 x ∙ mul-one (s8Of x))) (λ x. omega arith)
-    (at-word test8 all8) (λ x. omega arith) refl refl refl up8
-
 -- ---- cut 16: the state that the branch leads to; it is linear in the label too
 stateColumns16 : List ℕ
 stateColumns16 = 22 ∷ 29 ∷ 58 ∷ 1 ∷ 2 ∷ 4 ∷ 0 ∷ 22 ∷ 29 ∷ 58 ∷ 49 ∷ 0 ∷ []
@@ -176,45 +159,64 @@ stateColumns16 = 22 ∷ 29 ∷ 58 ∷ 1 ∷ 2 ∷ 4 ∷ 0 ∷ 22 ∷ 29 ∷ 58 �
 leastColumns16 : List ℕ
 leastColumns16 = 8 ∷ 16 ∷ 32 ∷ 27 ∷ 49 ∷ 62 ∷ []
 
+least16 : Tree
+least16 = build 6 (leastWords leastColumns16)
+
 abbrev treeState : ℕ → ℕ
 treeState x = get 10 nextTree (16 * s8Of x + b2Of x)
 
-agrees : ℕ → ℕ → Bool
-agrees x s = eqb s (treeState x)
+-- ---- both cuts in one walk along the codewords and their states at cut 16, so that the codewords are made once
+walked : ℕ → ℕ → ℕ → Bool
+walked z w s = cutTest 8 7 least8 z w (s8Of z) && (eqb s (treeState z) && cutTest 16 11 least16 z w s)
 
-all-agree : T (every agrees 0 (wordsOf stateColumns16))
-unfolding agrees stateColumns16 nextTree nexts
-all-agree = tt
+all-walked : T (every2 walked 0 words (wordsOf stateColumns16))
+unfolding walked words columns nextTree nexts least8 least16 leastWords leastColumns8 leastColumns16 stateColumns16
+all-walked = tt
 
+twelve : length stateColumns16 ≡ 12
+unfolding stateColumns16
+twelve = refl
+
+walked-at : (z : ℕ) → z < 4096
+    → T (cutTest 8 7 least8 z (codewordOf columns z) (s8Of z)) × T (eqb (codewordOf stateColumns16 z) (treeState z))
+    × T (cutTest 16 11 least16 z (codewordOf columns z) (codewordOf stateColumns16 z))
+unfolding walked
+walked-at z h =
+    let w = codewordOf columns z in
+    let s = codewordOf stateColumns16 z in
+    split3 (cutTest 8 7 least8 z w (s8Of z)) (eqb s (treeState z)) (cutTest 16 11 least16 z w s)
+    (at-words walked stateColumns16 twelve all-walked z h)
+
+-- ---- the numbers at cut 8
+up8 : T (ascBy suc 0 (leastWords leastColumns8))
+unfolding columns leastWords leastColumns8
+up8 = tt
+
+pub states-8 : Numbered 8 s8Of
+unfolding least8 leastColumns8
+states-8 =
+    numbered 8 7 s8Of (powers 0 6) leastColumns8 least8 (λ x. sym (powers-word 6 0 x ∙ mul-one (s8Of x))) (λ x. omega arith)
+    (λ z h. walked-at z h .0) (λ x. omega arith) refl refl refl up8
+
+-- ---- and at cut 16
 s16-low : (x : ℕ) → s16Of (x % 4096) ≡ s16Of x
 s16-low x = ap₂ nextOf (omega arith) (omega arith)
 
 s16-is : (x : ℕ) → s16Of x ≡ codewordOf stateColumns16 x
-unfolding agrees stateColumns16
+unfolding stateColumns16
 s16-is x =
     let y = x % 4096 in
-    let h : y < 4096 = mod-lt x (zero-lt-suc 4095) in
-    sym (s16-low x) ∙ sym (next-read y)
-    ∙ sym (eqb→eq _ _ (at agrees (wordsOf stateColumns16) all-agree y (subst (λ (n : ℕ). y < n) (sym (words-length stateColumns16)) h)))
-    ∙ words-at stateColumns16 y h ∙ word-low stateColumns16 x
-
-least16 : Tree
-least16 = build 6 (leastWords leastColumns16)
-
-test16 : ℕ → ℕ → Bool
-test16 z w = cutTest 16 11 least16 z w (treeState z)
-
-all16 : T (every test16 0 words)
-unfolding test16 words columns nextTree nexts least16 leastWords leastColumns16
-all16 = tt
+    sym (s16-low x) ∙ sym (next-tree y)
+    ∙ sym (eqb→eq (codewordOf stateColumns16 y) (treeState y) (walked-at y (mod-lt x (zero-lt-suc 4095)) .1))
+    ∙ word-low stateColumns16 x
 
 up16 : T (ascBy suc 0 (leastWords leastColumns16))
 unfolding columns leastWords leastColumns16
 up16 = tt
 
 pub states-16 : Numbered 16 s16Of
-unfolding test16 least16 leastColumns16 stateColumns16
+unfolding least16 leastColumns16 stateColumns16
 states-16 =
     numbered 16 11 s16Of stateColumns16 leastColumns16 least16 s16-is s16-low
-    (λ z h. subst (λ (s : ℕ). T (cutTest 16 11 least16 z (codewordOf columns z) s)) (next-read z) (at-word test16 all16 z h))
+    (λ z h. subst (λ (s : ℕ). T (cutTest 16 11 least16 z (codewordOf columns z) s)) (sym (s16-is z)) (walked-at z h .2))
     (λ x. next-lt (s8Of x) (b2Of x)) refl refl refl up16

@@ -8,7 +8,7 @@ use native.Mathlib.Omega.{arith}
 use lib.Dec.{T}
 use lib.ListN.{length, getD}
 use lib.Bits.{bitXor}
-use Rattle.laws.specs.Laws.Tables.{every, at}
+use Rattle.laws.specs.Laws.Tables.{every, at, every2, at2}
 use Rattle.laws.specs.Laws.Lists.{filled}
 use Rattle.trellis.specs.Code.{codewordOf, columns, codewords}
 
@@ -63,3 +63,12 @@ pub at-word : (f : ℕ → ℕ → Bool) → T (every f 0 words) → (x : ℕ) �
 unfolding words columns
 at-word f t x h =
     subst (λ (w : ℕ). T (f x w)) (words-at columns x h) (at f (wordsOf columns) t x (subst (λ (n : ℕ). x < n) (sym (words-length columns)) h))
+
+-- and one along the words and those of twelve other columns
+pub at-words : (f : ℕ → ℕ → ℕ → Bool) (cs : List ℕ) → length cs ≡ 12 → T (every2 f 0 words (wordsOf cs)) → (x : ℕ) → x < 4096
+    → T (f x (codewordOf columns x) (codewordOf cs x))
+unfolding words columns
+at-words f cs e t x h =
+    subst (λ (v : ℕ). T (f x (codewordOf columns x) v)) (words-at cs x (subst (λ (n : ℕ). x < 2 ^ n) (sym e) h))
+    (subst (λ (w : ℕ). T (f x w (getD (wordsOf cs) x 0))) (words-at columns x h)
+    (at2 f (wordsOf columns) (wordsOf cs) t x (subst (λ (n : ℕ). x < n) (sym (words-length columns)) h)))

@@ -5,7 +5,7 @@ use borrow.Author.Needs.{needs}
 use lib.IntN.{ℤ}
 use Rattle.tetra.specs.Tetra.{pointOf}
 use Rattle.yultarvas.specs.Calls.{atFront, decodeNumber}
-use Rattle.yultarvas.proofs.Answers.{left-new, no-room, room}
+use Rattle.yultarvas.specs.Laws.Room.{left-new, no-room, room}
 use Rattle.yultarvas.proofs.yultarvas_decode.Statement.{statement}
 use Rattle.yultarvas.proofs.yultarvas_decode.Tie as tie
 

@@ -3,7 +3,8 @@ use mathlib.Core.Path.{refl, ap, _∙_}
 use borrow.Author.Needs.{needs}
 use Rattle.encoder.specs.Encode.{encodeSamples}
 use Rattle.yultarvas.specs.Calls.{atOwnScale}
-use Rattle.yultarvas.proofs.Answers.{no-samples, no-cells, coded}
+use Rattle.yultarvas.specs.Laws.Room.{no-samples, no-cells}
+use Rattle.yultarvas.proofs.Answers.{coded}
 use Rattle.yultarvas.proofs.yultarvas_encode.Statement.{statement}
 use Rattle.yultarvas.proofs.yultarvas_encode.Tie as tie
 
@@ -15,7 +16,7 @@ returns c =
 returns-2 : tie.Need-returns-2
 returns-2 c =
     let a = c .before .before .before .args in
-    (no-cells (a .samples .now) (a .point .now) (atOwnScale (a .samples .now) .number) (c .before .if1 .left) (c .if2 .taken), (refl, (refl, refl)))
+    (no-cells (a .samples .now) (a .point .now) (atOwnScale (a .samples .now) .number) (c .if2 .taken), (refl, (refl, refl)))
 
 samples-of-requires : tie.Need-samples-of-requires
 samples-of-requires c κs = search needs

@@ -5,7 +5,8 @@ use lib.Ieee.{Float}
 use borrow.Author.Needs.{needs}
 use Rattle.encoder.specs.Encode.{encodeAtScale}
 use Rattle.yultarvas.specs.Calls.{atScale}
-use Rattle.yultarvas.proofs.Answers.{no-samples, no-cells, coded}
+use Rattle.yultarvas.specs.Laws.Room.{no-samples, no-cells}
+use Rattle.yultarvas.proofs.Answers.{coded}
 use Rattle.yultarvas.proofs.yultarvas_encode_at_scale.Statement.{statement}
 use Rattle.yultarvas.proofs.yultarvas_encode_at_scale.Tie as tie
 
@@ -19,7 +20,7 @@ returns-2 : tie.Need-returns-2
 returns-2 c =
     let a = c .before .before .before .args in
     let d = atScale (a .samples .now) (a .scale) (a .setting) in
-    (no-cells (a .samples .now) (a .point .now) (d .number) (c .before .if1 .left) (c .if2 .taken), (refl, (refl, refl)))
+    (no-cells (a .samples .now) (a .point .now) (d .number) (c .if2 .taken), (refl, (refl, refl)))
 
 samples-of-requires : tie.Need-samples-of-requires
 samples-of-requires c κs = search needs

@@ -6,7 +6,7 @@ use lib.IntN.{ℤ}
 use Rattle.tetra.specs.declared.Encoded.{Encoded}
 use Rattle.tetra.specs.Encode.{encodeOf}
 use Rattle.yultarvas.specs.Calls.{wordFor, pointNumber}
-use Rattle.yultarvas.proofs.Answers.{left-new, left-old, no-room, room}
+use Rattle.yultarvas.specs.Laws.Room.{left-new, left-old, no-room, room}
 use Rattle.yultarvas.proofs.yultarvas_encode_point.Statement.{statement}
 use Rattle.yultarvas.proofs.yultarvas_encode_point.Tie as tie
 

@@ -5,7 +5,8 @@ use lib.Ieee.{Float}
 use borrow.Author.Needs.{needs}
 use Rattle.encoder.specs.Encode.{encodeWith}
 use Rattle.yultarvas.specs.Calls.{atSetting}
-use Rattle.yultarvas.proofs.Answers.{no-samples, no-cells, coded}
+use Rattle.yultarvas.specs.Laws.Room.{no-samples, no-cells}
+use Rattle.yultarvas.proofs.Answers.{coded}
 use Rattle.yultarvas.proofs.yultarvas_encode_with.Statement.{statement}
 use Rattle.yultarvas.proofs.yultarvas_encode_with.Tie as tie
 
@@ -19,7 +20,7 @@ returns-2 : tie.Need-returns-2
 returns-2 c =
     let a = c .before .before .before .args in
     let d = atSetting (a .samples .now) (a .setting) in
-    (no-cells (a .samples .now) (a .point .now) (d .number) (c .before .if1 .left) (c .if2 .taken), (refl, (refl, refl)))
+    (no-cells (a .samples .now) (a .point .now) (d .number) (c .if2 .taken), (refl, (refl, refl)))
 
 samples-of-requires : tie.Need-samples-of-requires
 samples-of-requires c κs = search needs

@@ -5,7 +5,7 @@ use lib.Ieee.{Float}
 use Rattle.score.specs.declared.Scales.{Scales}
 use Rattle.score.specs.Scale.{scales}
 use Rattle.yultarvas.specs.Calls.{scalesFor, scalesNumber}
-use Rattle.yultarvas.proofs.Answers.{left-old, no-room, room}
+use Rattle.yultarvas.specs.Laws.Room.{left-old, no-room, room}
 use Rattle.yultarvas.proofs.yultarvas_lower_scale.Statement.{statement}
 use Rattle.yultarvas.proofs.yultarvas_lower_scale.Tie as tie
 

@@ -8,7 +8,7 @@ use lib.ListN.{length, drop}
 use Rattle.page.specs.Reader.{readingOf}
 use Rattle.page.specs.Answer.{numIn, wordsIn}
 use Rattle.yultarvas.specs.Calls.{wordsOver}
-use Rattle.yultarvas.proofs.Answers.{left-old}
+use Rattle.yultarvas.specs.Laws.Room.{left-old}
 use Rattle.yultarvas.proofs.Pages.{no-page, Holds, some-page}
 use Rattle.yultarvas.proofs.yultarvas_parse_page.Statement.{statement}
 use Rattle.yultarvas.proofs.yultarvas_parse_page.Tie as tie

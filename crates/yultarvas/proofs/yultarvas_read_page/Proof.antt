@@ -6,7 +6,7 @@ use lib.ListN.{length}
 use Rattle.page.specs.declared.PageRead.{PageRead}
 use Rattle.page.specs.Answer.{readOf}
 use Rattle.page.specs.Reader.{readingOf}
-use Rattle.yultarvas.proofs.Answers.{left-new, left-old}
+use Rattle.yultarvas.specs.Laws.Room.{left-new, left-old}
 use Rattle.yultarvas.proofs.yultarvas_read_page.Statement.{statement}
 use Rattle.yultarvas.proofs.yultarvas_read_page.Tie as tie
 

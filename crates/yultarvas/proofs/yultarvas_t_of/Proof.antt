@@ -7,7 +7,7 @@ use lib.Ieee.{Float}
 use Rattle.score.specs.declared.Scored.{Scored}
 use Rattle.score.specs.Score.{scored}
 use Rattle.yultarvas.specs.Calls.{scoreFor, scoreNumber}
-use Rattle.yultarvas.proofs.Answers.{left-old, no-samples, no-cells, both}
+use Rattle.yultarvas.specs.Laws.Room.{left-old, no-samples, no-cells, both}
 use Rattle.yultarvas.proofs.yultarvas_t_of.Statement.{statement}
 use Rattle.yultarvas.proofs.yultarvas_t_of.Tie as tie
 
@@ -19,7 +19,7 @@ returns c =
 returns-2 : tie.Need-returns-2
 returns-2 c =
     let a = c .before .before .before .args in
-    (no-cells (a .samples .now) (a .point .now) (scoreFor (a .samples .now) (a .point .now) .number) (c .before .if1 .left) (c .if2 .taken), refl)
+    (no-cells (a .samples .now) (a .point .now) (scoreFor (a .samples .now) (a .point .now) .number) (c .if2 .taken), refl)
 
 samples-of-requires : tie.Need-samples-of-requires
 samples-of-requires c κs = search needs

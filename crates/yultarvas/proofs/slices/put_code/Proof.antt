@@ -6,7 +6,7 @@ use borrow.Author.Needs.{needs}
 use lib.IntN.{ℤ}
 use lib.Ieee.{Float}
 use Rattle.yultarvas.specs.Calls.{atFront}
-use Rattle.yultarvas.proofs.Answers.{left-new, left-old}
+use Rattle.yultarvas.specs.Laws.Room.{left-new, left-old}
 use Rattle.yultarvas.proofs.slices.put_code.Statement.{statement}
 use Rattle.yultarvas.proofs.slices.put_code.Tie as tie
 

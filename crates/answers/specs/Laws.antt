@@ -1,0 +1,2 @@
+-- answers written out
+pub mod Examples
