@@ -95,14 +95,10 @@ AllFine p = Each (λ i. Fine (EndByte tables 0 (i % 64)) p (i / 64) (classOf tab
 abbrev AllVal : Sides → Type 0
 AllVal = Each (λ i e. Val (e .value)) (λ i e. Val (e .value)) (λ i e. Val (e .value))
 
-m-lt : (i n : ℕ) → n < 32 → midAt tables i n < 256
-m-lt = mid-at-lt tables tables-good
-
-n-lt : (p i n : ℕ) → n < 32 → lastAt tables p i n < 128
-n-lt = last-at-lt tables tables-good
-
 way-num : (p : ℕ) (s : Sides) → AllVal s → (i n : ℕ) → i < 128 → n < 32 → Num (costAt tables p s i n)
-way-num p s W0 i n h k = sum-num _ _ _ (W0 .one i h) (W0 .two (midAt tables i n) (m-lt i n k)) (W0 .three (lastAt tables p i n) (n-lt p i n k))
+way-num p s W0 i n h k =
+    sum-num _ _ _ (W0 .one i h) (W0 .two (midAt tables i n) (mid-at-lt tables tables-good i n k))
+    (W0 .three (lastAt tables p i n) (last-at-lt tables tables-good p i n k))
 
 -- ---- a path of three members
 pub record Through (p : ℕ) (e1 e2 e3 : Entry) : Type 0 where
@@ -120,8 +116,8 @@ module _ (p : ℕ) (s : Sides) (L : AllLast p s) where
 
   way-through : (i n : ℕ) → i < 128 → n < 32 → finite (costAt tables p s i n) ≡ true
       → Through p (entAt (s .e1) i) (entAt (s .e2) (midAt tables i n)) (entAt (s .e3) (lastAt tables p i n))
-  way-through i n h k f = go (sum-case _ _ _ (vals .one i h) (vals .two (midAt tables i n) (m-lt i n k))
-      (vals .three (lastAt tables p i n) (n-lt p i n k)))
+  way-through i n h k f = go (sum-case _ _ _ (vals .one i h) (vals .two (midAt tables i n) (mid-at-lt tables tables-good i n k))
+      (vals .three (lastAt tables p i n) (last-at-lt tables tables-good p i n k)))
     where
       go : (costAt tables p s i n ≡ infinity)
           ⊎ (Below Far (entAt (s .e1) i .value) × Below Far (entAt (s .e2) (midAt tables i n) .value)
@@ -134,8 +130,8 @@ module _ (p : ℕ) (s : Sides) (L : AllLast p s) where
         i-lt = h;
         n-lt = k;
         one = last-held (L .one i h) (q .0);
-        two = last-held (L .two (midAt tables i n) (m-lt i n k)) (q .1);
-        three = last-held (L .three (lastAt tables p i n) (n-lt p i n k)) (q .2);
+        two = last-held (L .two (midAt tables i n) (mid-at-lt tables tables-good i n k)) (q .1);
+        three = last-held (L .three (lastAt tables p i n) (last-at-lt tables tables-good p i n k)) (q .2);
       }
 
   -- a join of finite cost is such a path
@@ -249,8 +245,8 @@ module _ (u : Rule) (U0 : RuleOk u) (t : Targets) (T1 : (j : ℕ) → j < 8 → 
 
   -- every path costs a finite amount
   way-finite : (s : Sides) → AllFine p s → (i n : ℕ) → i < 128 → n < 32 → T (finite (costAt tables p s i n))
-  way-finite s a i n h k = sum-below (a .one i h .below) (a .two (midAt tables i n) (m-lt i n k) .below)
-      (a .three (lastAt tables p i n) (n-lt p i n k) .below) .fin
+  way-finite s a i n h k = sum-below (a .one i h .below) (a .two (midAt tables i n) (mid-at-lt tables tables-good i n k) .below)
+      (a .three (lastAt tables p i n) (last-at-lt tables tables-good p i n k) .below) .fin
 
   -- ---- the seed joins
   abbrev SeedKnown : Seed → Type 0
@@ -368,11 +364,11 @@ module _ (u : Rule) (U0 : RuleOk u) (t : Targets) (T1 : (j : ℕ) → j < 8 → 
 
     first2 : Fin (bnd 4096 .b2) (midAt tables 0 0)
     unfolding boundsTo
-    first2 = first (λ b. b .b2) (λ w. w .i2) 256 (midAt tables 0 0) (m-lt 0 0 (lit≤ tt)) refl refl (λ n. refl) 4095 (lit≤ tt)
+    first2 = first (λ b. b .b2) (λ w. w .i2) 256 (midAt tables 0 0) (mid-at-lt tables tables-good 0 0 (lit≤ tt)) refl refl (λ n. refl) 4095 (lit≤ tt)
 
     first3 : Fin (bnd 4096 .b3) (lastAt tables p 0 0)
     unfolding boundsTo
-    first3 = first (λ b. b .b3) (λ w. w .i3) 128 (lastAt tables p 0 0) (n-lt p 0 0 (lit≤ tt)) refl refl (λ n. refl) 4095 (lit≤ tt)
+    first3 = first (λ b. b .b3) (λ w. w .i3) 128 (lastAt tables p 0 0) (last-at-lt tables tables-good p 0 0 (lit≤ tt)) refl refl (λ n. refl) 4095 (lit≤ tt)
 
     -- ---- what is left at the last join
     abbrev left : Sides
@@ -404,8 +400,8 @@ module _ (u : Rule) (U0 : RuleOk u) (t : Targets) (T1 : (j : ℕ) → j < 8 → 
         go (inl e) =
             join-finite p left (closing-last s (bnd 4096) a) 0 0 (lit≤ tt) (lit≤ tt)
             (stay1 0 (lit≤ tt) (inr (under (getD (bnd 4096 .b1) 0 nan) first1 e)))
-            (stay2 (midAt tables 0 0) (m-lt 0 0 (lit≤ tt)) (inr (under (getD (bnd 4096 .b2) (midAt tables 0 0) nan) first2 e)))
-            (stay3 (lastAt tables p 0 0) (n-lt p 0 0 (lit≤ tt))
+            (stay2 (midAt tables 0 0) (mid-at-lt tables tables-good 0 0 (lit≤ tt)) (inr (under (getD (bnd 4096 .b2) (midAt tables 0 0) nan) first2 e)))
+            (stay3 (lastAt tables p 0 0) (last-at-lt tables tables-good p 0 0 (lit≤ tt))
             (inr (under (getD (bnd 4096 .b3) (lastAt tables p 0 0) nan) first3 e)))
         go (inr q) =
             let x1 = entAt (s .e1) (q .i) .exact in
@@ -414,8 +410,8 @@ module _ (u : Rule) (U0 : RuleOk u) (t : Targets) (T1 : (j : ℕ) → j < 8 → 
             let z = split3 x1 x2 x3 (true-is (allExact s (wayAt tables p s (q .i) (q .n))) (q .exact)) in
             join-finite p left (closing-last s (bnd 4096) a) (q .i) (q .n) (q .i-lt) (q .n-lt)
             (stay1 (q .i) (q .i-lt) (inl (is-true x1 (z .0))))
-            (stay2 (midAt tables (q .i) (q .n)) (m-lt (q .i) (q .n) (q .n-lt)) (inl (is-true x2 (z .1))))
-            (stay3 (lastAt tables p (q .i) (q .n)) (n-lt p (q .i) (q .n) (q .n-lt)) (inl (is-true x3 (z .2))))
+            (stay2 (midAt tables (q .i) (q .n)) (mid-at-lt tables tables-good (q .i) (q .n) (q .n-lt)) (inl (is-true x2 (z .1))))
+            (stay3 (lastAt tables p (q .i) (q .n)) (last-at-lt tables tables-good p (q .i) (q .n) (q .n-lt)) (inl (is-true x3 (z .2))))
 
   -- ---- with no cost known, a parity always finds a path
   pub first-found : parity tables u t p infinity .found ≡ true

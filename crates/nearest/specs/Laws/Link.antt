@@ -27,7 +27,7 @@ use Rattle.trellis.specs.Laws.Rows.{prefix-read, middle-read, next-read, suffix
 use Rattle.tetra.specs.Lattice.{trio, LatticePoint, section, sectionRanks, inOwnClass, HasWord}
 use Rattle.tetra.specs.Tetra.{natural}
 use Rattle.tetra.specs.Laws.Orders.{trio-length, natural-length, trio-natural, parity-trio, parity-natural, uniform-at, at-uniform, k-order}
-use Rattle.tetra.specs.Laws.Word.{section-size}
+use Rattle.tetra.specs.Laws.Word.{section-size, own-small}
 use Rattle.search.specs.Record.{bitAt, member}
 use Rattle.search.specs.Tables.{tables, classOf}
 use Rattle.search.specs.Laws.Tables.{mixed-is}
@@ -167,9 +167,6 @@ module _ (y : List ℤ) (W : HasWord y) where
   bits3 =
       part-bits 2 (third word) (omega arith) third-lt
       (λ j h. ap (λ (w : ℕ). bitAt w (16 + j)) (bytes-of word) ∙ bit-c (first word) (second word) (third word) first-lt second-lt j h)
-
-  own-small : (v : List ℕ) → T (inOwnClass v) → T (ranksBelow 8 v)
-  own-small v t = below-up 5 8 (omega arith) v (class-ranks (class v) v t)
 
   class-lt : (v : List ℕ) → class v < 2
   class-lt v = mod-lt (kZero v) (zero-lt-suc 1)

@@ -8,6 +8,7 @@ use native.Mathlib.Omega.{arith}
 use lib.Dec.{T}
 use lib.Ieee.{Float, nan, inf, fin, binary64, fits, lt, le, eq, add}
 use lib.Ieee.Scale.{finite}
+use Rattle.laws.specs.Laws.Tests.{true-is}
 use Rattle.float.specs.Value.{posUnits, negUnits, U}
 use Rattle.float.specs.Laws.Near.{Near}
 use Rattle.float.specs.Laws.Compare.{lt-is, not-lt-is, le-is, AtMost}
@@ -80,13 +81,10 @@ le-inf (fin s m e) h = refl
 pub clash : {b : Bool} → b ≡ true → b ≡ false → ⊥
 clash p q = subst T (sym p ∙ q) tt
 
-yes-T : {b : Bool} → b ≡ true → T b
-yes-T p = subst T (sym p) tt
-
 -- ---- the three uses
 pub under-lt : (x y : Float) {B : ℕ} → Num x → Under y B → lt x y ≡ true → Under x B
 under-lt x y (inl e) u h = absurd (clash h (subst (λ (z : Float). lt z y ≡ false) (sym e) (lt-inf y (u .fin))))
-under-lt x y (inr a) u h = under-at x y a (le-of-lt (lt-is x y (a .fit) (u .fit) (a .fin) (u .fin) (yes-T h))) u
+under-lt x y (inr a) u h = under-at x y a (le-of-lt (lt-is x y (a .fit) (u .fit) (a .fin) (u .fin) (true-is _ h))) u
 
 pub under-not-lt : (x y : Float) {B : ℕ} → Under x B → Num y → lt x y ≡ false → Under y B
 under-not-lt x y u (inl e) h = absurd (clash (subst (λ (z : Float). lt x z ≡ true) (sym e) (inf-lt x (u .fin))) h)
@@ -94,7 +92,7 @@ under-not-lt x y u (inr a) h = under-at y x a (not-lt-is x y (u .fit) (a .fit) (
 
 pub under-le : (x y : Float) {B : ℕ} → Num x → Under y B → le x y ≡ true → Under x B
 under-le x y (inl e) u h = absurd (clash h (subst (λ (z : Float). le z y ≡ false) (sym e) (le-inf y (u .fin))))
-under-le x y (inr a) u h = under-at x y a (le-is x y (a .fit) (u .fit) (a .fin) (u .fin) (yes-T h)) u
+under-le x y (inr a) u h = under-at x y a (le-is x y (a .fit) (u .fit) (a .fin) (u .fin) (true-is _ h)) u
 
 -- ---- sums with infinity
 pub add-inf-l : (y : Float) → Num y → add binary64 infinity y ≡ infinity

@@ -56,7 +56,7 @@ sections y =
         ∙ ap (λ (l : List ℕ). take 8 v ++ l) (take-append-drop 8 (drop 8 v)) ∙ take-append-drop 8 v
 
 -- what meets its bound has no rank above 4
-own-small : (v : List ℕ) → T (inOwnClass v) → T (ranksBelow 8 v)
+pub own-small : (v : List ℕ) → T (inOwnClass v) → T (ranksBelow 8 v)
 own-small v t = below-up 5 8 (omega arith) v (class-ranks (class v) v t)
 
 sections-small : (y : List ℤ) → T (inOwnClass (sectionRanks y 0)) → T (inMiddle (sectionRanks y 1)) → T (inOwnClass (sectionRanks y 2))

@@ -18,6 +18,7 @@ use Rattle.trellis.specs.Trellis.{row, prefixOf, middleOf, nextOf, suffi
 use Rattle.trellis.specs.Trellis.{openingOf, passageOf, closingOf, openingSays, passageSays, closingSays}
 use Rattle.trellis.specs.Laws.Path.{row-at, row-length, prefixes-length, middles-length, suffixes-length}
 use Rattle.trellis.specs.Laws.Path.{path-at, first-at, second-at, third-at, middle-up, suffix-pair, next-lt}
+use Rattle.trellis.specs.Laws.Rows.{prefix-read}
 use Rattle.trellis.specs.Laws.Code.{distinct}
 use Rattle.trellis.specs.Laws.Look.{seek-is, seek-none, Distinct, found-distinct, up-distinct, says-iff, says-none}
 use Rattle.trellis.specs.declared.Opening.{Opening}
@@ -65,12 +66,8 @@ loud-open : (i : ℕ) → openingSays (openAt i) ≡ [] → ⊥
 loud-open i = some (i / 2) ((i % 2) ∷ [])
 
 -- the place of a prefix among them all, and back
-at-place : (s b : ℕ) → b < 2 → prefixOf s b ≡ getD prefixes (2 * s + b) 0
-unfolding prefixOf
-at-place s b h = row-at 2 prefixes s b h
-
 place-at : (i : ℕ) → prefixOf (i / 2) (i % 2) ≡ getD prefixes i 0
-place-at i = at-place (i / 2) (i % 2) (omega arith) ∙ ap (λ (n : ℕ). getD prefixes n 0) (omega arith)
+place-at i = prefix-read (i / 2) (i % 2) (omega arith) ∙ ap (λ (n : ℕ). getD prefixes n 0) (omega arith)
 
 pub opening-iff : (c1 s8 b1 : ℕ) → (openingSays (openingOf c1) ≡ s8 ∷ b1 ∷ []) ↔ ((s8 < 64) × (b1 < 2) × (prefixOf s8 b1 ≡ c1))
 unfolding openingOf
@@ -83,7 +80,7 @@ opening-iff c s b = (
       let eb : i % 2 ≡ b = cc in
       (omega (arith, prefixes-length, q .1), omega arith, ap₂ prefixOf (sym es) (sym eb) ∙ place-at i ∙ q .2),
   λ q. found .1
-      (2 * s + b, omega (arith, prefixes-length), sym (at-place s b (q .1)) ∙ q .2, ap₂ (λ (x y : ℕ). x ∷ y ∷ []) (omega arith) (omega arith)),
+      (2 * s + b, omega (arith, prefixes-length), sym (prefix-read s b (q .1)) ∙ q .2, ap₂ (λ (x y : ℕ). x ∷ y ∷ []) (omega arith) (omega arith)),
 )
   where
     found : (openingSays (openingOf c) ≡ s ∷ b ∷ [])
@@ -94,7 +91,7 @@ pub opening-none : (c1 : ℕ) → (openingSays (openingOf c1) ≡ []) ↔ ((s8 b
 unfolding openingOf
 opening-none c =
     let r = says-none Opening openingSays openAt NoState refl loud-open prefixes c in (
-      λ e s b h k q. r .0 e (2 * s + b) (omega (arith, prefixes-length)) (sym (at-place s b k) ∙ q),
+      λ e s b h k q. r .0 e (2 * s + b) (omega (arith, prefixes-length)) (sym (prefix-read s b k) ∙ q),
       λ n. r .1 (λ i h e. n (i / 2) (i % 2) (omega (arith, prefixes-length)) (omega arith) (place-at i ∙ e)),
     )
 

@@ -58,15 +58,6 @@ module _ (A : Type 0) (f : ℕ → A) (none : A) (xs : List ℕ) (c : ℕ) where
   look-none n =
       ap (λ (b : Bool). cond b (f (seek c xs)) none) (le-ltb (seek c xs) (length xs) (omega (arith, seek-none c xs n)))
 
-  -- an answer v other than `none` comes from a place at which c stands
-  pub look-out : (v : A) (Q : Type 0) → (none ≡ v → ⊥) → ((i : ℕ) → i < length xs → getD xs i 0 ≡ c → f i ≡ v → Q)
-      → lookUp f none xs c ≡ v → Q
-  look-out v Q n q = go (ltb (seek c xs) (length xs)) refl
-    where
-      go : (b : Bool) → ltb (seek c xs) (length xs) ≡ b → cond b (f (seek c xs)) none ≡ v → Q
-      go true e u = q (seek c xs) (ltb-true (seek c xs) (length xs) e) (seek-holds c xs (ltb-true (seek c xs) (length xs) e)) u
-      go false e u = absurd (n u)
-
 -- ---- what the answer says: numbers at a place, none where there is none
 module _ (A : Type 0) (says : A → List ℕ) (f : ℕ → A) (none : A) (quiet : says none ≡ []) (loud : (i : ℕ) → says (f i) ≡ [] → ⊥)
     (xs : List ℕ) (c : ℕ) where
