@@ -8,7 +8,7 @@ use Rattle.tetra.specs.Tetra.{pointOf}
 abbrev pub nearest : ℕ → ℕ → ℕ
 nearest n d = (2 * n + d) / (2 * d)
 
--- z / d as the nearest whole number, a half away from zero: the magnitude is quotientBy, and the sign put back
+-- z / d as the nearest whole number, a half away from zero: the magnitude is rounded, and the sign put back
 abbrev pub quotientBy : ℤ → ℕ → ℤ
 quotientBy (pos n) d = pos (nearest n d)
 quotientBy (negsuc n) d = negℤ (pos (nearest (suc n) d))

@@ -33,12 +33,12 @@ const GAIN: Slot = Slot { lo: 47, width: 1 };
 pub struct Fields {
     pub p: u8, // the parity that the 24 coordinates share
     pub r: u8, // the class of section 1
-    pub s8: u8, // the state at fieldAt 8
+    pub s8: u8, // the state at cut 8
     pub b1: u8, // which of its two prefixes
     pub i1: u16, // the row of section 1 in its class
     pub b2: u8, // the branch out of the state
     pub i2: u16, // the row of section 2 in the middle's order
-    pub b3: u8, // which of the two suffixes at fieldAt 16
+    pub b3: u8, // which of the two suffixes at cut 16
     pub i3: u16, // the row of section 3 in its class
     pub gain: u8, // carried by the word, never decoded
 }
