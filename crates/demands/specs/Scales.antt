@@ -4,15 +4,14 @@ use mathlib.Core.Path.{_≡_, sym, ap, ap₂, _∙_, subst}
 use mathlib.Core.List.{List}
 use Prim.Native.Nat.{ℕ}
 use native.Mathlib.Nat.{le-of-eq}
-use native.Mathlib.Omega.{arith}
 use borrow.Author.Tests.{ne-eqb}
 use lib.ListN.{length}
 use lib.Ieee.{Float}
 use Rattle.score.specs.Samples.{AllFit, sampleNumber, scaleNumber}
 use Rattle.score.specs.Scale.{choiceOf, secondScale}
 use Rattle.score.specs.declared.Choice.{Choice}
-use Rattle.score.specs.declared.Choice.the-variants.{Zero, Scale}
-use Rattle.score.specs.Laws.Quotient.{KeepsBoth, choice-keeps}
+use Rattle.score.specs.declared.Choice.the-variants.{Scale}
+use Rattle.score.specs.Laws.Quotient.{KeepsBoth, choice-keeps, scale-chosen}
 use Rattle.encoder.specs.Encode.{numberAt, encodeAtOver, higher, twoScales, codeAt, numberOf}
 use Rattle.encoder.specs.Numbers.{zero-says, at-accepted, is-accepted}
 use Rattle.demands.specs.Promised.{TwoCalls}
@@ -21,14 +20,11 @@ pub two-calls : (ps : List ℕ) (x : List Float) (s : Float) (n : ℕ) → lengt
     → TwoCalls ps x s n
 unfolding codeAt twoScales
 two-calls ps x s n l f e c =
-    let k = subst (KeepsBoth x) c (choice-keeps x f (le-of-eq l) (zero-says n (sampleNumber x) e .1) (λ z. differs (sym c ∙ z))) in
+    let k = subst (KeepsBoth x) c (choice-keeps x f (le-of-eq l) (zero-says n (sampleNumber x) e .1) (λ z. scale-chosen s (sym c ∙ z))) in
     let i = accepted s (k .0 .accepted) in
     let j = accepted (secondScale s) (k .1 .accepted) in
     record { first = i; second = j; code = is-accepted ps x n e ∙ ap (λ (h : Choice). codeAt ps h x n) c ∙ both i j }
   where
-    differs : Scale s ≡ Zero → ⊥
-    differs e = let z : _≡_ {A = ℕ} 0 1 = cc in omega arith
-
     accepted : (t : Float) → scaleNumber x t ≡ 0 → numberAt x t n ≡ 0
     accepted t q = rw (ne-eqb n 0 (zero-says n (sampleNumber x) e .0)) q
 

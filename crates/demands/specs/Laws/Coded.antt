@@ -18,7 +18,7 @@ use Rattle.score.specs.Samples.{AllFit, sampleNumber, scaleNumber}
 use Rattle.score.specs.Scale.{choiceOf, firstScale, secondScale}
 use Rattle.score.specs.declared.Choice.{Choice}
 use Rattle.score.specs.declared.Choice.the-variants.{Zero, Scale, Divide}
-use Rattle.score.specs.Laws.Quotient.{Keeps, KeepsBoth, choice-keeps}
+use Rattle.score.specs.Laws.Quotient.{Keeps, KeepsBoth, choice-keeps, scale-chosen}
 use Rattle.search.specs.declared.Winner.{Winner}
 use Rattle.search.specs.Block.{winnerFor, pointFrom}
 use Rattle.members.specs.Accepted.{Accepted}
@@ -85,10 +85,7 @@ module _ (ps : List ℕ) (W : (t : List Float) → Accepted t → (n : ℕ) → 
       → ((h ≡ Zero → ⊥) → KeepsBoth x h) → Coded (codeAt ps h x n)
   unfolding codeAt
   by-choice Zero x n l f d k = zeros _
-  by-choice (Scale s) x n l f d k = two x s n l f d (k differs)
-    where
-      differs : Scale s ≡ Zero → ⊥
-      differs e = let z : _≡_ {A = ℕ} 0 1 = cc in omega arith
+  by-choice (Scale s) x n l f d k = two x s n l f d (k (scale-chosen s))
   by-choice (Divide m s) x n l f d k =
       back m (twoScales ps (quotientsOf x m) s n) (two (quotientsOf x m) s n (quotients-length x m ∙ l) (quotients-fit x m) d (k differs))
     where

@@ -4,7 +4,7 @@ use mathlib.Core.Path.{_≡_, refl, sym, ap, _∙_, subst}
 use mathlib.Core.Bool.{Bool, true, false, cond, not, _&&_}
 use mathlib.Core.List.{List, [], _∷_}
 use Prim.Native.Nat.{ℕ, zero, suc, _+_, _/_, _%_, _^_, _≤_, _<_}
-use native.Mathlib.Nat.{zero-lt-suc, le-refl}
+use native.Mathlib.Nat.{zero-lt-suc, le-refl, add-mod}
 use native.Mathlib.Omega.{arith}
 use lib.Dec.{T, leb, eqb, leb→le, nleb→lt}
 use lib.ListN.{length}
@@ -115,9 +115,6 @@ lower-bound (o ∷ os) (r ∷ v) e m s t =
     l : length os ≡ length v
     l = omega arith
 
-    turn : (a b : ℕ) → (a % 2 + b % 2) % 2 ≡ (a + b) % 2
-    turn a b = omega arith
-
     n-is : length os ≡ length (valuesOf os v)
     n-is = l ∙ sym (values-length os v l)
 
@@ -133,7 +130,7 @@ lower-bound (o ∷ os) (r ∷ v) e m s t =
         up (ofClass (inFront (x 0) (x 1) (lower os)) (class (r ∷ v))) (x ((r + 1) / 2 % 2)) (part (valOf o r) (length (valuesOf os v)))
         (ofClass (lower os) (class v)) (grade (valuesOf os v))
         (subst (λ (c : ℕ). ofClass (inFront (x 0) (x 1) (lower os)) c ≤ x ((r + 1) / 2 % 2) + ofClass (lower os) (class v))
-        (turn ((r + 1) / 2) (kZero v))
+        (sym (add-mod ((r + 1) / 2) (kZero v) 2))
         (front-low x (lower os) ((r + 1) / 2 % 2) (class v) (omega arith) (omega arith)))
         (subst (λ (n : ℕ). x ((r + 1) / 2 % 2) ≤ part (valOf o r) n) n-is
         (least-at o r (length os) (rank-first 4 o os s) (rank-first 8 r v t) (omega arith) .1))

@@ -26,6 +26,8 @@ use native.Mathlib.Nat.{
   mul-le-mul-right,
   mul-lt-mul-of-pos-right,
   le-of-mul-le-mul-right,
+  le-add-right,
+  le-add-left,
 }
 use native.Mathlib.Omega.{arith}
 use lib.Dec.{T, ltb, eqb, ltb→lt, nltb→le, eqb·suc-zero, lit≤}
@@ -39,7 +41,6 @@ use Rattle.float.specs.Value.{U, magUnits, isMinus, posUnits, negUnits, 
 use Rattle.float.specs.Laws.Exact.{
   has-value,
   no-digits,
-  add-scaled,
   neg-mag,
   parts,
   unlike-false,
@@ -48,7 +49,7 @@ use Rattle.float.specs.Laws.Exact.{
   mag-lt,
   round-exactly,
 }
-use Rattle.float.specs.Laws.Compare.{num-x, num-y, common-pos, le-is}
+use Rattle.float.specs.Laws.Compare.{num-x, num-y, common-pos, le-is, both}
 use Rattle.float.specs.Laws.Error.{halfUlp, Rounded, round-grid, round-units, rounded-cancel}
 use Rattle.float.specs.Laws.Near.{Near, near-more, near-parts, near-scale, near-neg, near-mag-plain, mag-near-plain, rounded-near, near-signed}
 
@@ -58,9 +59,6 @@ sub-mul i j l = mul-comm (i - j) l ∙ mul-sub l i j ∙ ap₂ (λ (m n : ℕ). 
 
 -- ±a / c and ±b / c, which are x and y units, added
 module _ (a b c x y k : ℕ) (C : 0 < c) (p : a * U ≡ x * c) (q : b * U ≡ y * c) (K : k ≤ 1023) (h : x + y < 2 ^ (k + 1074)) where
-  joined : (a + b) * U ≡ (x + y) * c
-  joined = add-scaled a b U x y c p q
-
   less : (a - b) * U ≡ (x - y) * c
   less = sub-mul a b U ∙ ap₂ (λ (i j : ℕ). i - j) p q ∙ sym (sub-mul x y c)
 
@@ -87,8 +85,8 @@ module _ (a b c x y k : ℕ) (C : 0 < c) (p : a * U ≡ x * c) (q : b * U ≡ y 
 
   sum-near : (s t : Bool) → Near 1 (sum binary64 s a t b c) (cond s 0 x + cond t 0 y) (cond s x 0 + cond t y 0) (halfUlp k)
   unfolding sum
-  sum-near false false = near-parts (x + y) (0 + 0) (one false (a + b) (x + y) joined (le-refl (x + y))) (omega arith)
-  sum-near true true = near-parts (0 + 0) (x + y) (one true (a + b) (x + y) joined (le-refl (x + y))) (omega arith)
+  sum-near false false = near-parts (x + y) (0 + 0) (one false (a + b) (x + y) (both a b c x y C p q) (le-refl (x + y))) (omega arith)
+  sum-near true true = near-parts (0 + 0) (x + y) (one true (a + b) (x + y) (both a b c x y C p q) (le-refl (x + y))) (omega arith)
   sum-near false true = go (ltb a b) (ltb→lt a b) (nltb→le a b)
     where
       go : (l : Bool) → (T l → a < b) → (T (not l) → b ≤ a)
@@ -312,12 +310,6 @@ add-grows (fin false m e) (fin false n d) fx fy ix iy sx sy h =
     let a = m * up e * down d in
     let b = n * up d * down e in
     let c = down e * down d in
-    let p = round-grows x a (a + b) c fx tt refl (common-pos e d) (num-x false m e false n d fx fy) (over a b) h in
-    let q = round-grows y b (a + b) c fy tt refl (common-pos e d) (num-y false m e false n d fx fy) (under a b) h in
+    let p = round-grows x a (a + b) c fx tt refl (common-pos e d) (num-x false m e false n d fx fy) (le-add-right a b) h in
+    let q = round-grows y b (a + b) c fy tt refl (common-pos e d) (num-y false m e false n d fx fy) (le-add-left b a) h in
     record { sign = p .0; left = p .1; right = q .1 }
-  where
-    over : (a b : ℕ) → a ≤ a + b
-    over a b = omega arith
-
-    under : (a b : ℕ) → b ≤ a + b
-    under a b = omega arith

@@ -66,7 +66,7 @@ module _ (a b c x y : ℕ) (C : 0 < c) (p : a * U ≡ x * c) (q : b * U ≡ y * 
   none : 0 * U ≡ 0 * c
   none = zero-mul U ∙ sym (zero-mul c)
 
-  both : (a + b) * U ≡ (x + y) * c
+  pub both : (a + b) * U ≡ (x + y) * c
   both = add-scaled a b U x y c p q
 
   below-says : (s t : Bool) → Says (below s a t b) (cond s 0 x + cond t y 0 < cond t 0 y + cond s x 0)

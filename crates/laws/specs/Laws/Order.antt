@@ -1,10 +1,9 @@
 -- Order: what a comparison of two numbers says, and a comparison that hands on to another where the two are equal, as lists of numbers are
 -- compared, first element most significant. Assumes nothing.
 use mathlib.Core.Path.{_≡_, _∙_, subst, sym, refl}
-use mathlib.Core.Logic.{_⊎_, inl, inr}
+use mathlib.Core.Logic.{_⊎_, inl, inr, _≢_}
 use mathlib.Core.Bool.{Bool, true, false, not}
-use mathlib.Core.List.{List, [], _∷_}
-use Prim.Native.Nat.{ℕ, _<_, _≤_, compare, Ordering, Ordering·lt, Ordering·eq, Ordering·gt}
+use Prim.Native.Nat.{ℕ, suc, _+_, _-_, _<_, _≤_, compare, Ordering, Ordering·lt, Ordering·eq, Ordering·gt}
 use native.Mathlib.Omega.{arith}
 use lib.Dec.{T, isLe, isEq, leb→le, eqb→eq, eqb-refl, nleb→lt}
 use lib.Arith.{lt-of-le-ne}
@@ -48,6 +47,13 @@ le-or-lt a b = go (trichotomy a b)
     go (less c) = inl (omega arith)
     go (same c) = inl (omega arith)
     go (more c) = inr c
+
+-- below n + 1 and other than n
+pub lt-other : {n j : ℕ} → n ≢ j → j < suc n → j < n
+lt-other d h = omega arith
+
+pub sub-below : (a b c : ℕ) → a ≤ c + b → a - b ≤ c
+sub-below a b c h = omega arith
 
 -- ---- smaller: yes; equal: as the rest says; greater: no
 pub pick3-less : (a b : ℕ) (p : Bool) → a < b → pick3 (compare a b) p ≡ true

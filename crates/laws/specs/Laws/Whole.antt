@@ -1,7 +1,7 @@
 -- Whole numbers with a sign: quotient and remainder from the floor, magnitudes. Assumes nothing.
 use mathlib.Core.Path.{_≡_, refl, _∙_}
 use mathlib.Core.Bool.{Bool, true, false, cond}
-use Prim.Native.Nat.{ℕ, suc, _+_, _-_, _/_, _%_, _<_, _≤_}
+use Prim.Native.Nat.{ℕ, suc, _+_, _-_, _*_, _/_, _%_, _<_, _≤_}
 use native.Mathlib.Omega.{arith}
 use borrow.Author.Tests.{ltb-true, ltb-false}
 use lib.Dec.{ltb}
@@ -9,6 +9,16 @@ use lib.IntN.{ℤ, pos, negsuc, subℕ, _+ℤ_}
 use Rattle.laws.specs.Words.{modZ}
 
 -- ---- remainders
+pub bit-small : (x : ℕ) → x % 2 < 2
+bit-small x = omega arith
+
+-- a bit below a number, and both taken back
+pub low-bit : (b n : ℕ) → b < 2 → (b + 2 * n) % 2 ≡ b
+low-bit b n h = omega arith
+
+pub high-bits : (b n : ℕ) → b < 2 → (b + 2 * n) / 2 ≡ n
+high-bits b n h = omega arith
+
 pub mod2-lt : (y : ℤ) → modZ y 2 < 2
 mod2-lt (pos n) = omega arith
 mod2-lt (negsuc n) = omega arith

@@ -29,10 +29,11 @@ use Rattle.nearest.specs.Laws.Shape.{oAt, o-lt}
 use Rattle.nearest.specs.Laws.Packed.{packed-lt, packed-holds, class-bound, cut-size, cut-below}
 use Rattle.nearest.specs.Laws.Entries.{EndByte, entryOf, better-keeps}
 use Rattle.nearest.specs.Laws.Premises.{val-small, class-cost}
-use Rattle.nearest.specs.Laws.TableFacts.{entry-in, tables-more}
+use Rattle.nearest.specs.Laws.TableFacts.{tables-more}
 use Rattle.members.specs.Laws.Sizes.{Below, wider, Target, dist-below}
 use Rattle.members.specs.Laws.Candidates.{Good, Far, base-below, base-member, solve-good}
 use Rattle.members.specs.Laws.Middle.{always-met}
+use Rattle.fallbacks.specs.Laws.Entries.{entry-member}
 
 -- an exact entry that holds a member of parity p and class r, within the bound b, whose byte is one of those asked for
 pub record Held (Byte : ℕ → Type 0) (p r : ℕ) (b : Closed) (e : Entry) : Type 0 where
@@ -97,7 +98,7 @@ fallback-held ts T0 kind p r st K0 P0 R0 S0 =
     let c = byteOf kind p r st in
     let key = keyOf kind p r st in
     let v = unpack 8 key in
-    let m = entry-in kind p r st K0 P0 R0 S0 in
+    let m = entry-member kind p r st K0 P0 R0 S0 in
     let e = member-packed kind r st c key R0 m in
     let low = unpack-below 8 key in
     record {

@@ -30,13 +30,14 @@ use Rattle.search.specs.Parity.{seedBy, seedTo, seedOf, boundsTo, closing, last
 use Rattle.nearest.specs.Laws.Forms.{RuleOk}
 use Rattle.nearest.specs.Laws.Under.{Num, Plain, Under, clash, inf-lt, sum3, either-num, sum3-case}
 use Rattle.nearest.specs.Laws.Entries.{EndByte, closed-keeps, set-either}
-use Rattle.nearest.specs.Laws.Pass.{MidByte, Each, Kept, half, small, bit, seeds-have, closing-has}
+use Rattle.nearest.specs.Laws.Pass.{MidByte, Each, Kept, half, small, seeds-have, closing-has}
 use Rattle.nearest.specs.Laws.Winner.{mid-at-lt, last-at-lt}
 use Rattle.nearest.specs.Laws.Join.{Seen, join-seen, join-under}
 use Rattle.nearest.specs.Laws.TableFacts.{tables-good}
 use Rattle.members.specs.Laws.Sizes.{Below, Err, Target, add-below}
 use Rattle.members.specs.Laws.Candidates.{Far}
 use Rattle.members.specs.Laws.Entries.{Held, Fine, held-fine, end-held, end-start, mid-held, mid-start}
+use Rattle.laws.specs.Laws.Whole.{bit-small}
 
 -- ---- a value: infinite, or finite and of bounded size
 abbrev Val : Float → Type 0
@@ -201,12 +202,12 @@ module _ (u : Rule) (U0 : RuleOk u) (t : Targets) (T1 : (j : ℕ) → j < 8 → 
     }
 
   mid-new : (i : ℕ) → Held (MidByte tables i) p (i % 2) (tables .mixed) (solved2 tables u (t .t2) p i)
-  mid-new i = mid-held u U0 (t .t2) T2 p P0 (getD (tables .sets) (i / 2) 0) (i % 2) (bit i)
+  mid-new i = mid-held u U0 (t .t2) T2 p P0 (getD (tables .sets) (i / 2) 0) (i % 2) (bit-small i)
 
   mid-kept : Kept 256 (λ i. midStart tables (t .t2) p (getD (tables .sets) (i / 2) 0) (i % 2)) (λ i. solved2 tables u (t .t2) p i)
       (λ i. Fine (MidByte tables i) p (i % 2) (tables .mixed)) (λ i. Last (MidByte tables i) p (i % 2) (tables .mixed))
   mid-kept = record {
-    start = λ i h. mid-start u U0 (t .t2) T2 p P0 (getD (tables .sets) (i / 2) 0) (i % 2) (bit i);
+    start = λ i h. mid-start u U0 (t .t2) T2 p P0 (getD (tables .sets) (i / 2) 0) (i % 2) (bit-small i);
     solved = λ i h. held-fine (mid-new i);
     close = λ i h e b f. closed-last _ p _ _ e b _ f (mid-new i);
   }

@@ -2,7 +2,7 @@
 use mathlib.Core.Path.{_≡_, sym, ap, ap₂, _∙_, subst}
 use mathlib.Core.List.{List, _++_}
 use Prim.Native.Nat.{ℕ, _+_, _-_, _*_, _/_, _%_, _^_, _≤_, _<_}
-use native.Mathlib.Nat.{mod-lt, zero-lt-suc, mod-eq-of-lt}
+use native.Mathlib.Nat.{mod-lt, zero-lt-suc, mod-eq-of-lt, le-add-right, add-sub-cancel-left}
 use native.Mathlib.Omega.{arith}
 use lib.Dec.{T}
 use lib.ListN.{getD, length, take, drop, List·getD-append}
@@ -278,12 +278,6 @@ module _ (p : ℕ) (P0 : p < 2) (e1 e2 e3 : Entry) (H : Through p e1 e2 e3) wher
       (bit-c (e1 .byte) (e2 .byte) (e3 .byte) c1-lt c2-lt j h) h (last-at j h)
       ∙ sym (glue3 (sectionAt p (e1 .byte) (e1 .key)) (sectionAt p (e2 .byte) (e2 .key)) (sectionAt p (e3 .byte) (e3 .key)) j h))
     where
-      past : (m j : ℕ) → m ≤ m + j
-      past m j = omega arith
-
-      less : (m j : ℕ) → m + j - m ≡ j
-      less m j = omega arith
-
       eight : (j : ℕ) → 16 + j - 8 ≡ 8 + j
       eight j = omega arith
 
@@ -291,12 +285,12 @@ module _ (p : ℕ) (P0 : p < 2) (e1 e2 e3 : Entry) (H : Through p e1 e2 e3) wher
       nine j = omega arith
 
       middle-at : (j : ℕ) → j < 8 → getD (v1 ++ (v2 ++ v3)) (8 + j) 0 ≡ getD v2 j 0
-      middle-at j h = append-past ℕ 0 v1 (v2 ++ v3) (8 + j) (past 8 j) ∙ ap (λ (m : ℕ). getD (v2 ++ v3) m 0) (less 8 j) ∙ List·getD-append v2 v3 0 j h
+      middle-at j h = append-past ℕ 0 v1 (v2 ++ v3) (8 + j) (le-add-right 8 j) ∙ ap (λ (m : ℕ). getD (v2 ++ v3) m 0) (add-sub-cancel-left 8 j) ∙ List·getD-append v2 v3 0 j h
 
       last-at : (j : ℕ) → j < 8 → getD (v1 ++ (v2 ++ v3)) (16 + j) 0 ≡ getD v3 j 0
       last-at j h =
           append-past ℕ 0 v1 (v2 ++ v3) (16 + j) (nine j) ∙ ap (λ (m : ℕ). getD (v2 ++ v3) m 0) (eight j)
-          ∙ append-past ℕ 0 v2 v3 (8 + j) (past 8 j) ∙ ap (λ (m : ℕ). getD v3 m 0) (less 8 j)
+          ∙ append-past ℕ 0 v2 v3 (8 + j) (le-add-right 8 j) ∙ ap (λ (m : ℕ). getD v3 m 0) (add-sub-cancel-left 8 j)
 
   natural-is : natural z ≡ tab (λ i. three (block.place i)) 24
   natural-is =

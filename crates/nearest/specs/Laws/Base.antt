@@ -4,7 +4,7 @@ use mathlib.Core.List.{List}
 use mathlib.Core.Logic.{_≢_}
 use mathlib.Core.Bool.{Bool, true, false, cond}
 use Prim.Native.Nat.{ℕ, zero, suc, _+_, _-_, _*_, _%_, _^_, _≤_, _<_}
-use native.Mathlib.Nat.{le-refl, le-trans, le-of-eq, le-of-lt, mul-le-mul-left, mul-add}
+use native.Mathlib.Nat.{le-refl, le-trans, le-of-eq, le-of-lt, mul-le-mul-left, mul-add, le-add-right, sub-add-cancel, sub-le, add-le-add}
 use native.Mathlib.Omega.{arith}
 use native.Mathlib.Decide.{ℕ-discrete}
 use borrow.Author.Tests.{eq-eqb}
@@ -24,6 +24,7 @@ use Rattle.nearest.specs.Laws.Sums.{strong, stepped-up, sum-le, sum-same
 use Rattle.nearest.specs.Laws.Ints.{gapK, far}
 use Rattle.nearest.specs.Laws.Coordinate.{Target, Rounds, E1, rounds}
 use Rattle.nearest.specs.Laws.Shape.{oAt, o-lt, row-at, slot-at, slot-off, slot-plain}
+use Rattle.laws.specs.Laws.Order.{lt-other, sub-below}
 
 -- |t - o - 4 k| squared
 abbrev pub sqK : ℕ → ℤ → Float → ℕ
@@ -114,15 +115,9 @@ module _ (ts : List Float) (p c : ℕ) (P0 : p < 2) (T0 : (j : ℕ) → j < 8 �
       go r (yes e) true q = subst (λ (i : ℕ). AtMost (reg i) (reg n)) e (same (reg n))
       go r (yes e) false q = subst (λ (i : ℕ). AtMost (reg i) (reg (worstTo eR n))) e
           (not-lt-is (reg (worstTo eR n)) (reg n) (fw .fit) (fn .fit) (fw .fin) (fn .fin) q)
-      go r (no d) true q = trans (reg j) (reg (worstTo eR n)) (reg n) (r (less d l))
+      go r (no d) true q = trans (reg j) (reg (worstTo eR n)) (reg n) (r (lt-other d l))
           (weak (reg (worstTo eR n)) (reg n) (lt-is (reg (worstTo eR n)) (reg n) (fw .fit) (fn .fit) (fw .fin) (fn .fin) (subst T (sym q) tt)))
-        where
-          less : n ≢ j → j < suc n → j < n
-          less d l = omega arith
-      go r (no d) false q = r (less d l)
-        where
-          less : n ≢ j → j < suc n → j < n
-          less d l = omega arith
+      go r (no d) false q = r (lt-other d l)
 
   abbrev jW : ℕ
   jW = worstTo eR 8
@@ -145,11 +140,8 @@ module _ (ts : List Float) (p c : ℕ) (P0 : p < 2) (T0 : (j : ℕ) → j < 8 �
   unfolding wK
   plain-one k j h = go (ℤ-discrete (k j) (kJ j))
     where
-      le-add : (a b : ℕ) → a ≤ a + b
-      le-add a b = omega arith
-
       go : Dec (k j ≡ kJ j) → sqK (oJ j) (kJ j) (tJ j) ≤ sqK (oJ j) (k j) (tJ j) + wK
-      go (yes e) = subst (λ (z : ℤ). sqK (oJ j) (kJ j) (tJ j) ≤ sqK (oJ j) z (tJ j) + wK) (sym e) (le-add (sqK (oJ j) (kJ j) (tJ j)) wK)
+      go (yes e) = subst (λ (z : ℤ). sqK (oJ j) (kJ j) (tJ j) ≤ sqK (oJ j) z (tJ j) + wK) (sym e) (le-add-right (sqK (oJ j) (kJ j) (tJ j)) wK)
       go (no d) = round-best (g0 j) (gapK (oJ j) (k j) (tJ j)) U E1 (facts j h .close) (far (oJ j) (k j) (kJ j) (tJ j) d)
 
   strong-one : (k : ℕ → ℤ) (j : ℕ) → j < 8 → kJ j ≢ k j
@@ -157,16 +149,10 @@ module _ (ts : List Float) (p c : ℕ) (P0 : p < 2) (T0 : (j : ℕ) → j < 8 �
   strong-one k j h d =
       let a = facts j h .close in
       let f = far (oJ j) (k j) (kJ j) (tJ j) (λ (e : k j ≡ kJ j). d (sym e)) in
-      let s = strong (4 * U - g0 j) (g0 j) (gapK (oJ j) (k j) (tJ j)) (4 * U) (split (4 * U) (g0 j) (2 * U + E1) a (lit≤ tt))
-      (under (4 * U) (g0 j) (gapK (oJ j) (k j) (tJ j)) f) in
+      let s = strong (4 * U - g0 j) (g0 j) (gapK (oJ j) (k j) (tJ j)) (4 * U) (sym (sub-add-cancel (le-trans a (lit≤ tt))))
+      (sub-below (4 * U) (g0 j) (gapK (oJ j) (k j) (tJ j)) f) in
       le-trans s (twice (sqK (oJ j) (k j) (tJ j)) (4 * U * g0 j) (4 * U * (g0 jW + (E1 + E1))) (mul-le-mul-left (4 * U) (worst-gap j h)))
     where
-      split : (u g m : ℕ) → g ≤ m → m ≤ u → u ≡ u - g + g
-      split u g m h k = omega arith
-
-      under : (u g x : ℕ) → u ≤ x + g → u - g ≤ x
-      under u g x h = omega arith
-
       twice : (a b c : ℕ) → b ≤ c → a + 2 * b ≤ a + 2 * c
       twice a b c h = omega arith
 
@@ -183,10 +169,7 @@ module _ (ts : List Float) (p c : ℕ) (P0 : p < 2) (T0 : (j : ℕ) → j < 8 �
   base-plain : (k : ℕ → ℤ) → Nearest W3 kJ k
   unfolding wK
   base-plain k = le-trans (sum-le (λ j. sqK (oJ j) (kJ j) (tJ j)) (λ j. sqK (oJ j) (k j) (tJ j)) wK 8 (plain-one k))
-      (more (sumTo (λ j. sqK (oJ j) (k j) (tJ j)) 8) (8 * wK) W3 (lit≤ tt))
-    where
-      more : (a b c : ℕ) → b ≤ c → a + b ≤ a + c
-      more a b c h = omega arith
+      (add-le-add {c = 8 * wK} {d = W3} (le-refl (sumTo (λ j. sqK (oJ j) (k j) (tJ j)) 8)) (lit≤ tt))
 
   -- the rounding with its least decided coordinate stepped
   abbrev sK : ℕ → ℤ
@@ -212,21 +195,15 @@ module _ (ts : List Float) (p c : ℕ) (P0 : p < 2) (T0 : (j : ℕ) → j < 8 �
       let g1 = gapK (oJ jW) (slotK (kJ jW) (towardOf (coordAt eR jW .dir))) (tJ jW) in
       let a = sum-set bas own jW 8 w8 (λ j l m. ap (λ (z : ℤ). sqK (oJ j) z (tJ j)) (stepped-off j m)) in
       let a' : sumTo bas 8 + g0 jW * g0 jW ≡ sumTo own 8 + g1 * g1 = a ∙ ap (λ (z : ℤ). sumTo own 8 + sqK (oJ jW) z (tJ jW)) stepped-at in
-      let b = stepped-up (4 * U - g0 jW) (g0 jW) g1 (4 * U) E1 (split (4 * U) (g0 jW) (2 * U + E1) (R .close) (lit≤ tt))
+      let b = stepped-up (4 * U - g0 jW) (g0 jW) g1 (4 * U) E1 (sym (sub-add-cancel (le-trans (R .close) (lit≤ tt))))
       (under (4 * U) (g0 jW) g1 E1 (R .toward)) in
       let c = odd-le own oth kJ k wK (4 * U * (4 * U)) (2 * (4 * U * (g0 jW + (E1 + E1)))) 8 d (plain-one k) (strong-one k) in
       let r = repair (sumTo bas 8) (sumTo own 8) (sumTo oth 8) (g0 jW) g1 (4 * U) 0 (8 * wK) E1 (4 * U - g0 jW) a' b c in
       le-trans r (more (sumTo oth 8) (4 * (4 * U * E1)) (8 * wK) (E1 * (4 * U - g0 jW)) (E1 * (4 * U)) (E1 * E1) W3
-      (mul-le-mul-left E1 (le-sub (4 * U) (g0 jW))) (lit≤ tt))
+      (mul-le-mul-left E1 (sub-le (4 * U) (g0 jW))) (lit≤ tt))
     where
-      split : (u g m : ℕ) → g ≤ m → m ≤ u → u ≡ u - g + g
-      split u g m h k = omega arith
-
       under : (u g x e : ℕ) → x + g ≤ u + e → x ≤ u - g + e
       under u g x e h = omega arith
-
-      le-sub : (a b : ℕ) → a - b ≤ a
-      le-sub a b = omega arith
 
       more : (o a w x y z m : ℕ) → x ≤ y → a + w + (2 * y + z) ≤ m → o + (a + w + (2 * x + z)) ≤ o + m
       more o a w x y z m h k = omega arith

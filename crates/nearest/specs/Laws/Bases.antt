@@ -4,7 +4,7 @@ use mathlib.Core.Logic.{_≢_}
 use mathlib.Core.Bool.{Bool, true, false, cond}
 use mathlib.Core.List.{List}
 use Prim.Native.Nat.{ℕ, _+_, _*_, _≤_, _<_}
-use native.Mathlib.Nat.{le-refl, le-trans, le-of-eq}
+use native.Mathlib.Nat.{le-refl, le-trans, le-of-eq, add-le-add}
 use native.Mathlib.Omega.{arith}
 use lib.Dec.{eqb, lit≤}
 use lib.IntN.{ℤ, natAbs}
@@ -173,10 +173,7 @@ module _ (ts : List Float) (p c : ℕ) (P0 : p < 2) (T0 : (j : ℕ) → j < 8 �
     -- y's own base is y's section, and cheap
     pub own-cheap : Sec p c r y → Under (baseNow eR r .dist) (dist8 y ts + ES)
     own-cheap s =
-        let S = own (bS r) (base-sec r R0) (le-trans (base-near r y s) (fits (dist8 y ts) W3 M (lit≤ tt))) in
+        let S = own (bS r) (base-sec r R0) (le-trans (base-near r y s) (add-le-add {c = W3} {d = M} (le-refl (dist8 y ts)) (lit≤ tt))) in
         near-under (dist8 y ts + ES) (base-cand r .near)
         (le-of-eq (ap (λ (z : ℕ). z + ES)
         (sum-same (λ j. sqV (bS r j) (tAt ts j)) (λ j. sqV (y j) (tAt ts j)) 8 (λ j l. ap (λ (z : ℤ). sqV z (tAt ts j)) (S j l)))))
-      where
-        fits : (d e m : ℕ) → e ≤ m → d + e ≤ d + m
-        fits d e m h = omega arith

@@ -4,7 +4,7 @@ use mathlib.Core.Path.{_≡_, refl, sym, ap, ap₂, _∙_, subst}
 use mathlib.Core.Logic.{_⊎_, inl, inr}
 use mathlib.Core.Bool.{Bool, true, false, cond}
 use Prim.Native.Nat.{ℕ, _+_, _*_, _^_, _≤_, _<_}
-use native.Mathlib.Nat.{le-refl, le-trans, le-of-eq, le-of-lt, lt-of-lt-of-le, lt-of-le-of-lt}
+use native.Mathlib.Nat.{le-refl, le-trans, le-of-eq, le-of-lt, lt-of-lt-of-le, lt-of-le-of-lt, add-le-add, add-lt-add-of-lt-of-le}
 use native.Mathlib.Nat.{mul-le-mul-right, add-mul, mul-assoc, zero-mul, lt-of-mul-lt-mul-right}
 use native.Mathlib.Omega.{arith}
 use lib.Dec.{T, lit≤}
@@ -70,9 +70,6 @@ gap-back o k t = go o (posPart k) (negPart k) U (posUnits t) (negUnits t)
         let c : 4 * nk * u ≡ 4 * (nk * u) = mul-assoc 4 nk u in
         gap-swap (x + 0 + nk * u * 4) (y + o * u + pk * u * 4) ((o + 4 * pk) * u + y) (4 * nk * u + x) (omega arith)
 
-sum-lt : (a b c d : ℕ) → a < c → b ≤ d → a + b < c + d
-sum-lt a b c d h k = omega arith
-
 fold-e : (u e m : ℕ) → e + e ≤ m → 4 * u + (e + e) ≤ 4 * u + m
 fold-e u e m h = omega arith
 
@@ -87,7 +84,7 @@ module _ (t : Float) (o : ℕ) (T0 : Target t) (O0 : o < 4) where
   o-mg = int-mg (pos o) 3 (omega arith) (lit≤ tt)
 
   room1 : magUnits t + magUnits oF < 2 ^ 1080
-  room1 = lt-of-lt-of-le (sum-lt (magUnits t) (magUnits oF) (2 ^ 1079) (3 * U) (T0 .small) o-mg) (lit≤ tt)
+  room1 = lt-of-lt-of-le (add-lt-add-of-lt-of-le (T0 .small) o-mg) (lit≤ tt)
 
   abbrev pub dF : Float
   dF = sub binary64 t oF
@@ -99,7 +96,7 @@ module _ (t : Float) (o : ℕ) (T0 : Target t) (O0 : o < 4) where
   span : (posUnits t + negUnits oF) + (negUnits t + posUnits oF) ≤ 35 * U
   span = le-trans (le-of-eq (regroup (posUnits t) (negUnits oF) (negUnits t) (posUnits oF) (magUnits t) (magUnits oF) (mag-parts t)
       (mag-parts oF))) (le-trans (le-of-lt
-      (lt-of-lt-of-le (sum-lt (magUnits t) (magUnits oF) (2 ^ 1079) (3 * U) (T0 .small) o-mg) (le-refl (2 ^ 1079 + 3 * U)))) (lit≤ tt))
+      (lt-of-lt-of-le (add-lt-add-of-lt-of-le (T0 .small) o-mg) (le-refl (2 ^ 1079 + 3 * U)))) (lit≤ tt))
     where
       regroup : (a b c d g h : ℕ) → g ≡ a + c → h ≡ d + b → a + b + (c + d) ≡ g + h
       regroup a b c d g h x y = omega arith
@@ -231,14 +228,11 @@ module _ (t : Float) (o : ℕ) (T0 : Target t) (O0 : o < 4) where
 
   rounds-from : Rounds t o (coordFrom t o zF kZ)
   rounds-from = record {
-    close = le-trans close-of (more (2 * U) e5 E1 (lit≤ tt));
+    close = le-trans close-of (add-le-add {c = e5} {d = E1} (le-refl (2 * U)) (lit≤ tt));
     toward = toward-of (lt kF zF) refl;
     regret = regret-of;
     small = k-abs;
   }
-    where
-      more : (a b c : ℕ) → b ≤ c → a + b ≤ a + c
-      more a b c h = omega arith
 
   -- the clamp changes nothing
   z-small : magUnits zF ≤ 1000000 * U

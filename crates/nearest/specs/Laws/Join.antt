@@ -1,6 +1,6 @@
 -- The join answers one of the paths, or infinity, and no dearer than a given path or its first section.
 use mathlib.Core.Path.{_≡_, refl, sym, subst}
-use mathlib.Core.Logic.{_≢_, _⊎_, inl, inr}
+use mathlib.Core.Logic.{_⊎_, inl, inr}
 use mathlib.Core.Bool.{Bool, true, false, cond}
 use Prim.Native.Nat.{ℕ, zero, suc, _≤_, _<_}
 use native.Mathlib.Nat.{le-refl}
@@ -12,6 +12,7 @@ use Rattle.search.specs.Join.{Sides, keep, wayAt, costAt, entAt, rowTo, joinTo}
 use Rattle.search.specs.declared.Way.{Way}
 use Rattle.search.specs.Solve.{infinity}
 use Rattle.nearest.specs.Laws.Under.{Num, Under, under-lt, under-not-lt, under-le}
+use Rattle.laws.specs.Laws.Order.{lt-other}
 
 pub keep-num : (a b : Way) → Num (a .cost) → Num (b .cost) → Num (keep a b .cost)
 keep-num a b m n = go (lt (a .cost) (b .cost))
@@ -20,22 +21,20 @@ keep-num a b m n = go (lt (a .cost) (b .cost))
     go true = m
     go false = n
 
-keep-new : (a b : Way) {B : ℕ} → Under (a .cost) B → Num (b .cost) → Under (keep a b .cost) B
-keep-new a b {B} u n = go (lt (a .cost) (b .cost)) refl
+-- the way that is kept is as cheap as the one that the test names
+keep-under : (a b : Way) {B : ℕ} → (lt (a .cost) (b .cost) ≡ true → Under (a .cost) B) → (lt (a .cost) (b .cost) ≡ false → Under (b .cost) B)
+    → Under (keep a b .cost) B
+keep-under a b {B} f g = go (lt (a .cost) (b .cost)) refl
   where
     go : (t : Bool) → lt (a .cost) (b .cost) ≡ t → Under ((cond t a b) .cost) B
-    go true h = u
-    go false h = under-not-lt (a .cost) (b .cost) u n h
+    go true h = f h
+    go false h = g h
+
+keep-new : (a b : Way) {B : ℕ} → Under (a .cost) B → Num (b .cost) → Under (keep a b .cost) B
+keep-new a b u n = keep-under a b (λ h. u) (under-not-lt (a .cost) (b .cost) u n)
 
 keep-old : (a b : Way) {B : ℕ} → Num (a .cost) → Under (b .cost) B → Under (keep a b .cost) B
-keep-old a b {B} n u = go (lt (a .cost) (b .cost)) refl
-  where
-    go : (t : Bool) → lt (a .cost) (b .cost) ≡ t → Under ((cond t a b) .cost) B
-    go true h = under-lt (a .cost) (b .cost) n u h
-    go false h = u
-
-below : {n j : ℕ} → n ≢ j → j < suc n → j < n
-below d h = omega arith
+keep-old a b n u = keep-under a b (under-lt (a .cost) (b .cost) n u) (λ h. u)
 
 -- a way is infinite in cost, or one of those that were seen
 abbrev pub Seen : Tables → ℕ → Sides → Way → Type 0
@@ -61,7 +60,7 @@ module _ (g : Tables) (p : ℕ) (s : Sides) (N : (i n : ℕ) → i < 128 → n <
       go : (j < n → Under (rowTo g p s i w n .cost) B) → Dec (n ≡ j) → Under (keep (wayAt g p s i n) (rowTo g p s i w n) .cost) B
       go r (yes e) = keep-new (wayAt g p s i n) (rowTo g p s i w n)
           (subst (λ (z : ℕ). Under (costAt g p s i z) B) (sym e) u) (row-num i l w m n (omega arith))
-      go r (no d) = keep-old (wayAt g p s i n) (rowTo g p s i w n) (N i n l h) (r (below d k))
+      go r (no d) = keep-old (wayAt g p s i n) (rowTo g p s i w n) (N i n l h) (r (lt-other d k))
 
   row-seen : (i : ℕ) → i < 128 → (w : Way) → Seen g p s w → (n : ℕ) → n ≤ 32 → Seen g p s (rowTo g p s i w n)
   unfolding rowTo
@@ -104,5 +103,5 @@ module _ (g : Tables) (p : ℕ) (s : Sides) (N : (i n : ℕ) → i < 128 → n <
           (subst (λ (z : ℕ). Under (entAt (s .e1) z .value) B) (sym e) u) q
       go r (yes e) false q = row-new n h (joinTo g p s n) (join-num n (omega arith)) j
           (subst (λ (z : ℕ). Under (costAt g p s z j) B) (sym e) c) 32 (le-refl 32) k
-      go r (no d) true q = r (below d l)
-      go r (no d) false q = row-old n h (joinTo g p s n) (r (below d l)) 32 (le-refl 32)
+      go r (no d) true q = r (lt-other d l)
+      go r (no d) false q = row-old n h (joinTo g p s n) (r (lt-other d l)) 32 (le-refl 32)

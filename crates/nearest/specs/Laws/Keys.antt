@@ -194,18 +194,19 @@ rank-forth o r h l =
     ∙ ap (λ (t : Bool). cond t r noRank) (is-true (ltb r reach) (lt→ltb r reach (omega arith)))
 
 -- ---- packed rows of n ranks are the same if the ranks are
+-- one rank more is four bits more
+pub four-more : (n : ℕ) → 2 ^ (4 * suc n) ≡ 16 * 2 ^ (4 * n)
+four-more n = let a : 4 * suc n ≡ 4 + 4 * n = omega arith in ap (λ (z : ℕ). 2 ^ z) a ∙ pow-add 2 4 (4 * n)
+
 pub nib-ext : (n a b : ℕ) → a < 2 ^ (4 * n) → b < 2 ^ (4 * n) → ((j : ℕ) → j < n → rankAt a j ≡ rankAt b j) → a ≡ b
 nib-ext zero a b h k e = omega arith
 nib-ext (suc n) a b h k e =
-    let q = up n in
+    let q = four-more n in
     let x =
     nib-ext n (a / 16) (b / 16) (cut a (2 ^ (4 * n)) (2 ^ (4 * suc n)) q h) (cut b (2 ^ (4 * n)) (2 ^ (4 * suc n)) q k)
     (λ j l. next a j ∙ e (suc j) (over l) ∙ sym (next b j)) in
     join a b x (e 0 (zero-lt-suc n))
   where
-    up : (n : ℕ) → 2 ^ (4 * suc n) ≡ 16 * 2 ^ (4 * n)
-    up n = let a : 4 * suc n ≡ 4 + 4 * n = omega arith in ap (λ (z : ℕ). 2 ^ z) a ∙ pow-add 2 4 (4 * n)
-
     cut : (a x y : ℕ) → y ≡ 16 * x → a < y → a / 16 < x
     cut a x y q h = omega arith
 
@@ -213,7 +214,7 @@ nib-ext (suc n) a b h k e =
     over l = omega arith
 
     next : (a j : ℕ) → rankAt (a / 16) j ≡ rankAt a (suc j)
-    next a j = ap (λ (z : ℕ). z % 16) (div-div-eq-div-mul a 16 (2 ^ (4 * j)) ∙ ap (λ (z : ℕ). a / z) (sym (up j)))
+    next a j = ap (λ (z : ℕ). z % 16) (div-div-eq-div-mul a 16 (2 ^ (4 * j)) ∙ ap (λ (z : ℕ). a / z) (sym (four-more j)))
 
     join : (a b : ℕ) → a / 16 ≡ b / 16 → a / 1 % 16 ≡ b / 1 % 16 → a ≡ b
     join a b h k = omega arith

@@ -11,13 +11,13 @@ use lib.ListN.{getD, length, drop}
 use lib.Seq.{getD-take, getD-drop}
 use lib.IntN.{ℤ, pos}
 use Rattle.laws.specs.Words.{modZ}
-use Rattle.laws.specs.Laws.Whole.{mod2-lt}
+use Rattle.laws.specs.Laws.Whole.{mod2-lt, bit-small, low-bit, high-bits}
 use Rattle.laws.specs.Words.{weight}
 use Rattle.rank.specs.Coord.{parityOf, bitOf, kOf}
 use Rattle.rank.specs.Laws.Coord.{residue, halves}
 use Rattle.rank.specs.Vector.{ranksBelow, class, kZero, boundCost, boundCut, middleCost, middleCut}
 use Rattle.rank.specs.Section.{uniform, bitsOf, kSum}
-use Rattle.rank.specs.Laws.Vector.{below-up, class-ranks, middle-class}
+use Rattle.rank.specs.Laws.Vector.{middle-class}
 use Rattle.trellis.specs.Tables.{prefixes, middles, nexts, suffixes}
 use Rattle.trellis.specs.Code.{codewordOf, columns, first, second, third}
 use Rattle.trellis.specs.Laws.Code.{label-low, word-lt, bytes-even}
@@ -40,9 +40,6 @@ use Rattle.nearest.specs.Laws.TableFacts.{tables-bytes}
 use Rattle.nearest.specs.Laws.Packed.{class-bound, cut-size, cut-below, bits-at, bits-from, k-sum-is, row-of, class-of}
 
 -- ---- the codeword by its path
-bit-lt : (a : ℕ) → a % 2 < 2
-bit-lt a = mod-lt a (zero-lt-suc 1)
-
 branch-lt : (a : ℕ) → a % 16 < 16
 branch-lt a = mod-lt a (zero-lt-suc 15)
 
@@ -50,7 +47,7 @@ top : (x : ℕ) → x < 4096 → x / 2048 % 2 ≡ x / 2048
 top x h = omega arith
 
 byte1 : (x : ℕ) → prefixOf (x % 64) (x / 64 % 2) ≡ getD prefixes (2 * (x % 64) + x / 64 % 2) 0
-byte1 x = prefix-read (x % 64) (x / 64 % 2) (bit-lt (x / 64))
+byte1 x = prefix-read (x % 64) (x / 64 % 2) (bit-small (x / 64))
 
 byte2 : (x : ℕ) → middleOf (x % 64) (x / 128 % 16) ≡ getD middles (x % 64 * 16 + x / 128 % 16) 0
 byte2 x = middle-read (x % 64) (x / 128 % 16) (branch-lt (x / 128))
@@ -58,7 +55,7 @@ byte2 x = middle-read (x % 64) (x / 128 % 16) (branch-lt (x / 128))
 byte3 : (x : ℕ) → x < 4096
     → suffixOf (nextOf (x % 64) (x / 128 % 16)) (x / 2048 % 2) ≡ getD suffixes (2 * getD nexts (x % 64 * 16 + x / 128 % 16) 0 + x / 2048) 0
 byte3 x h =
-    suffix-read (nextOf (x % 64) (x / 128 % 16)) (x / 2048 % 2) (bit-lt (x / 2048))
+    suffix-read (nextOf (x % 64) (x / 128 % 16)) (x / 2048 % 2) (bit-small (x / 2048))
     ∙ ap₂ (λ (s b : ℕ). getD suffixes (2 * s + b) 0) (next-read (x % 64) (x / 128 % 16) (branch-lt (x / 128))) (top x h)
 
 path-is : (x : ℕ) → x < 4096 → codewordOf columns x ≡ pathOf tables x
@@ -225,16 +222,10 @@ module _ (z : List ℤ) (L : LeechTrio tables z) where
   leaves j h = ap (λ (v : ℤ). modZ v 4) (L .at j h) ∙ sym (member-is (L .p + 2 * bit j) (L .k j) (o-lt j) .0)
 
   parity-at : (j : ℕ) → j < 24 → parityOf (at24 z j) ≡ L .p
-  parity-at j h = sym (halves (at24 z j) .0) ∙ ap (λ (n : ℕ). n % 2) (leaves j h) ∙ low (L .p) (bit j) (L .p-lt)
-    where
-      low : (p b : ℕ) → p < 2 → (p + 2 * b) % 2 ≡ p
-      low p b h = omega arith
+  parity-at j h = sym (halves (at24 z j) .0) ∙ ap (λ (n : ℕ). n % 2) (leaves j h) ∙ low-bit (L .p) (bit j) (L .p-lt)
 
   bit-of : (j : ℕ) → j < 24 → bitOf (at24 z j) ≡ bit j
-  bit-of j h = sym (halves (at24 z j) .1) ∙ ap (λ (n : ℕ). n / 2) (leaves j h) ∙ high (L .p) (bit j) (L .p-lt)
-    where
-      high : (p b : ℕ) → p < 2 → (p + 2 * b) / 2 ≡ b
-      high p b h = omega arith
+  bit-of j h = sym (halves (at24 z j) .1) ∙ ap (λ (n : ℕ). n / 2) (leaves j h) ∙ high-bits (L .p) (bit j) (L .p-lt)
 
   k-is : (j : ℕ) → j < 24 → kOf (at24 z j) ≡ L .k j
   k-is j h = ap kOf (L .at j h) ∙ sym (member-is (L .p + 2 * bit j) (L .k j) (o-lt j) .1)

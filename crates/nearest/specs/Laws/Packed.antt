@@ -5,8 +5,9 @@ use mathlib.Core.Logic.{_⊎_, inl, inr}
 use mathlib.Core.Bool.{true, _&&_}
 use mathlib.Core.List.{List, [], _∷_}
 use Prim.Native.Nat.{ℕ, zero, suc, _+_, _*_, _/_, _%_, _^_, _≤_, _<_, suc-le-suc}
-use native.Mathlib.Nat.{zero-lt-suc, not-suc-le-zero, le-of-suc-le-suc, mod-eq-of-lt}
+use native.Mathlib.Nat.{zero-lt-suc, not-suc-le-zero, le-of-suc-le-suc, mod-eq-of-lt, add-mod-mod}
 use native.Mathlib.Omega.{arith}
+use native.Mathlib.Numerals.{one-add}
 use lib.Dec.{T, ltb, eqb, leb, lt→ltb, le→leb, lit≤}
 use lib.ListN.{getD, length, length-map}
 use lib.IntN.{ℤ, pos}
@@ -15,7 +16,7 @@ use Rattle.laws.specs.Laws.Tests.{is-true, or-left, or-right, and-in, eq→eqb}
 use Rattle.laws.specs.Words.{lexLe}
 use Rattle.laws.specs.Laws.Order.{pick3-out}
 use Rattle.laws.specs.Words.{modZ, divZ}
-use Rattle.laws.specs.Laws.Whole.{mod2-lt, parity-add}
+use Rattle.laws.specs.Laws.Whole.{mod2-lt, parity-add, high-bits}
 use Rattle.laws.specs.Words.{weight}
 use Rattle.rank.specs.Coord.{bitOf, kOf, rankOf, valOf}
 use Rattle.rank.specs.Vector.{ranksBelow, sq, cost, class, kZero, pack, unpack, within, boundCost, boundCut}
@@ -31,6 +32,7 @@ use Rattle.search.specs.Laws.Tables.{class0-is, class1-is}
 use Rattle.search.specs.Entries.{rankAt, sectionAt}
 use Rattle.nearest.specs.Laws.Forms.{sumTo, parK, RowOf}
 use Rattle.nearest.specs.Laws.Sums.{sum-same, sum-front}
+use Rattle.nearest.specs.Laws.Keys.{four-more}
 
 -- ---- lists read as numbers: of digits below 16 and one length, the order of lists is that of numbers
 lex-le : (v w : List ℕ) (a b : ℕ) → length v ≡ length w → T (ranksBelow 16 v) → T (ranksBelow 16 w)
@@ -60,11 +62,8 @@ cost-sum (r ∷ v) = ap (λ (n : ℕ). sq r + n) (cost-sum v) ∙ sum-front (λ 
 pack-lt : (v : List ℕ) → T (ranksBelow 16 v) → pack v < 2 ^ (4 * length v)
 pack-lt [] s = lit≤ tt
 pack-lt (r ∷ v) s =
-    step r (pack v) (2 ^ (4 * length v)) (2 ^ (4 * suc (length v))) (up (length v)) (rank-first 16 r v s) (pack-lt v (rank-rest 16 r v s))
+    step r (pack v) (2 ^ (4 * length v)) (2 ^ (4 * suc (length v))) (four-more (length v)) (rank-first 16 r v s) (pack-lt v (rank-rest 16 r v s))
   where
-    up : (n : ℕ) → 2 ^ (4 * suc n) ≡ 16 * 2 ^ (4 * n)
-    up n = let a : 4 * suc n ≡ 4 + 4 * n = omega arith in ap (λ (z : ℕ). 2 ^ z) a ∙ pow-add 2 4 (4 * n)
-
     step : (r w a b : ℕ) → b ≡ 16 * a → r < 16 → w < a → r + 16 * w < b
     step r w a b q h l = omega arith
 
@@ -124,15 +123,9 @@ bits-at (y ∷ t) zero h = low (bitOf y) (bitsOf t) (mod2-lt (divZ y 2))
     low b c h = omega arith
 bits-at (y ∷ t) (suc j) h =
     ap (λ (x : ℕ). x % 2)
-    (ap (λ (n : ℕ). (bitOf y + 2 * bitsOf t) / 2 ^ n) (one-more j) ∙ sym (shr-shr (bitOf y + 2 * bitsOf t) 1 j)
-    ∙ ap (λ (x : ℕ). x / 2 ^ j) (high (bitOf y) (bitsOf t) (mod2-lt (divZ y 2))))
+    (ap (λ (n : ℕ). (bitOf y + 2 * bitsOf t) / 2 ^ n) (sym (one-add j)) ∙ sym (shr-shr (bitOf y + 2 * bitsOf t) 1 j)
+    ∙ ap (λ (x : ℕ). x / 2 ^ j) (high-bits (bitOf y) (bitsOf t) (mod2-lt (divZ y 2))))
     ∙ bits-at t j (le-of-suc-le-suc h)
-  where
-    one-more : (j : ℕ) → suc j ≡ 1 + j
-    one-more j = omega arith
-
-    high : (b c : ℕ) → b < 2 → (b + 2 * c) / 2 ≡ c
-    high b c h = omega arith
 
 -- and they fix the number
 pub bits-from : (t : List ℤ) (w : ℕ) → w < 2 ^ length t → ((j : ℕ) → j < length t → bitOf (getD t j (pos 0)) ≡ bitAt w j) → bitsOf t ≡ w
@@ -141,13 +134,10 @@ bits-from [] w h e = omega arith
 bits-from (y ∷ t) w h e =
     join (bitOf y) (bitsOf t) w (e 0 (zero-lt-suc (length t)))
     (bits-from t (w / 2) (half (2 ^ length t) (2 ^ suc (length t)) (double (length t)) h)
-    (λ j l. e (suc j) (suc-le-suc l) ∙ ap (λ (x : ℕ). x % 2) (ap (λ (n : ℕ). w / 2 ^ n) (one-more j) ∙ sym (shr-shr w 1 j))))
+    (λ j l. e (suc j) (suc-le-suc l) ∙ ap (λ (x : ℕ). x % 2) (ap (λ (n : ℕ). w / 2 ^ n) (sym (one-add j)) ∙ sym (shr-shr w 1 j))))
   where
-    one-more : (j : ℕ) → suc j ≡ 1 + j
-    one-more j = omega arith
-
     double : (n : ℕ) → 2 ^ suc n ≡ 2 * 2 ^ n
-    double n = ap (λ (m : ℕ). 2 ^ m) (one-more n) ∙ pow-add 2 1 n
+    double n = ap (λ (m : ℕ). 2 ^ m) (sym (one-add n)) ∙ pow-add 2 1 n
 
     half : (a b : ℕ) → b ≡ 2 * a → w < b → w / 2 < a
     half a b q l = omega arith
@@ -161,11 +151,8 @@ unfolding kSum sumTo
 k-sum-is [] = refl
 k-sum-is (y ∷ t) =
     parity-add (kOf y) (kSum t) ∙ ap (λ (n : ℕ). (modZ (kOf y) 2 + n) % 2) (k-sum-is t)
-    ∙ last (modZ (kOf y) 2) (sumTo (λ j. modZ (kOf (getD t j (pos 0))) 2) (length t))
+    ∙ add-mod-mod (modZ (kOf y) 2) (sumTo (λ j. modZ (kOf (getD t j (pos 0))) 2) (length t)) 2
     ∙ ap (λ (n : ℕ). n % 2) (sum-front (λ j. modZ (kOf (getD (y ∷ t) j (pos 0))) 2) (length t))
-  where
-    last : (a b : ℕ) → (a + b % 2) % 2 ≡ (a + b) % 2
-    last a b = omega arith
 
 -- ---- eight coordinates of one parity, with the bits of byte c of even weight, and ranks below 8
 module _ (p c : ℕ) (t : List ℤ) (e : length t ≡ 8) (u : T (uniform p t)) (q : bitsOf t ≡ c) (s : T (ranksBelow 8 (ranksOf t)))

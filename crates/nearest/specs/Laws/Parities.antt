@@ -31,6 +31,18 @@ choose-either Q a b x y = go (b .found && (not (a .found) || lt (b .cost) (a .co
     go true = y
     go false = x
 
+-- the choice by its tests: whether each was found, and which is cheaper
+choose-by : (Q : Winner → Type 0) (a b : Winner) → (b .found ≡ false → Q a) → (b .found ≡ true → a .found ≡ false → Q b)
+    → (b .found ≡ true → a .found ≡ true → lt (b .cost) (a .cost) ≡ true → Q b)
+    → (b .found ≡ true → a .found ≡ true → lt (b .cost) (a .cost) ≡ false → Q a) → Q (choose a b)
+choose-by Q a b none alone cheaper dearer = go (b .found) refl (a .found) refl (lt (b .cost) (a .cost)) refl
+  where
+    go : (x : Bool) → b .found ≡ x → (z : Bool) → a .found ≡ z → (l : Bool) → lt (b .cost) (a .cost) ≡ l → Q (cond (x && (not z || l)) b a)
+    go false fx z fz l q = none fx
+    go true fx false fz l q = alone fx fz
+    go true fx true fz true q = cheaper fx fz q
+    go true fx true fz false q = dearer fx fz q
+
 pub over-each : (g : Tables) (u : Rule) (t : Targets) (Q : Winner → Type 0) (qs : List ℕ)
     → ((q : ℕ) → List·Memᴰ q qs → (best : Winner) → Q best → Q (choose best (parity g u t q (costOf best))))
     → (best : Winner) → Q best → Q (searchOver g u t best qs)
@@ -54,22 +66,12 @@ module _ (g : Tables) (t : Targets) (ps : List ℕ) where
     pub under : Under (w .cost) B
 
   choose-keeps : (B : ℕ) (a b : Winner) → Cheap B a → Fine b → Cheap B (choose a b)
-  choose-keeps B a b c f = go (b .found) refl (a .found) refl (lt (b .cost) (a .cost)) refl
-    where
-      go : (x : Bool) → b .found ≡ x → (z : Bool) → a .found ≡ z → (l : Bool) → lt (b .cost) (a .cost) ≡ l → Cheap B (cond (x && (not z || l)) b a)
-      go false fx z fz l q = c
-      go true fx true fz false q = c
-      go true fx true fz true q = record { found = fx; under = under-lt (b .cost) (a .cost) (near-num (f fx .answer .near)) (c .under) q }
-      go true fx false fz l q = absurd (subst T (sym (c .found) ∙ fz) tt)
+  choose-keeps B a b c f = choose-by (Cheap B) a b (λ fx. c) (λ fx fz. absurd (subst T (sym (c .found) ∙ fz) tt))
+      (λ fx fz q. record { found = fx; under = under-lt (b .cost) (a .cost) (near-num (f fx .answer .near)) (c .under) q }) (λ fx fz q. c)
 
   choose-takes : (B : ℕ) (a b : Winner) → Fine a → Cheap B b → Cheap B (choose a b)
-  choose-takes B a b f c = go (b .found) refl (a .found) refl (lt (b .cost) (a .cost)) refl
-    where
-      go : (x : Bool) → b .found ≡ x → (z : Bool) → a .found ≡ z → (l : Bool) → lt (b .cost) (a .cost) ≡ l → Cheap B (cond (x && (not z || l)) b a)
-      go false fx z fz l q = absurd (subst T (sym (c .found) ∙ fx) tt)
-      go true fx false fz l q = c
-      go true fx true fz true q = c
-      go true fx true fz false q = record { found = fz; under = under-not-lt (b .cost) (a .cost) (c .under) (near-num (f fz .answer .near)) q }
+  choose-takes B a b f c = choose-by (Cheap B) a b (λ fx. absurd (subst T (sym (c .found) ∙ fx) tt)) (λ fx fz. c) (λ fx fz q. c)
+      (λ fx fz q. record { found = fz; under = under-not-lt (b .cost) (a .cost) (c .under) (near-num (f fz .answer .near)) q })
 
 module _ (g : Tables) (u : Rule) (t : Targets) (G : GoodTables g) (ps : List ℕ) (PS : (q : ℕ) → List·Memᴰ q ps → q < 2)
     (F : (q : ℕ) → List·Memᴰ q ps → Facts g u t q) where

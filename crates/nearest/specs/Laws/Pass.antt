@@ -20,6 +20,7 @@ use Rattle.search.specs.declared.Way.{Way}
 use Rattle.search.specs.declared.Bounds.{Bounds}
 use Rattle.nearest.specs.Laws.Entries.{EndByte, EndFacts, MidFacts, Final, Sound, Mine, resolve-final, start-sound}
 use Rattle.nearest.specs.Laws.Entries.{mid-resolve-final, mid-start-sound, closed-final, closed-mine, fixed-keeps, fixed-mine}
+use Rattle.laws.specs.Laws.Whole.{bit-small}
 
 pub record Facts (g : Tables) (u : Rule) (t : Targets) (p : ℕ) : Type 0 where
   pub one : EndFacts g u (t .t1) 0 p
@@ -50,9 +51,6 @@ half h = omega arith
 
 pub small : (i : ℕ) → i % 64 < 64
 small i = mod-lt i (zero-lt-suc 63)
-
-pub bit : (i : ℕ) → i % 2 < 2
-bit i = mod-lt i (zero-lt-suc 1)
 
 module _ (g : Tables) (u : Rule) (t : Targets) (p : ℕ) where
   -- any property of the three lists that `seeded` keeps is kept by the seed joins
@@ -139,13 +137,13 @@ module _ (g : Tables) (u : Rule) (t : Targets) (p : ℕ) (F : Facts g u t p) whe
   mid-kept : Kept 256 (λ i. midStart g (t .t2) p (getD (g .sets) (i / 2) 0) (i % 2)) (λ i. solved2 g u (t .t2) p i)
       (λ i. Sound (MidByte g i) p (i % 2) (t .t2)) (λ i. Final (MidByte g i) p (i % 2) (t .t2))
   mid-kept = record {
-    start = λ i h. mid-start-sound g u (t .t2) p (F .two) (getD (g .sets) (i / 2) 0) (i % 2) (bit i);
+    start = λ i h. mid-start-sound g u (t .t2) p (F .two) (getD (g .sets) (i / 2) 0) (i % 2) (bit-small i);
     solved = λ i h q. new i;
     close = λ i h e b s. closed-final (MidByte g i) p (i % 2) (t .t2) e b _ s (new i);
   }
     where
       new : (i : ℕ) → Final (MidByte g i) p (i % 2) (t .t2) (solved2 g u (t .t2) p i)
-      new i = mid-resolve-final g u (t .t2) p (F .two) (getD (g .sets) (i / 2) 0) (i % 2) (bit i)
+      new i = mid-resolve-final g u (t .t2) p (F .two) (getD (g .sets) (i / 2) 0) (i % 2) (bit-small i)
 
   -- every entry at the last join
   pub last-final : (u0 : Float) → AllFinal g t p (lastSides g u t p (seedOf g u t p u0))

@@ -5,7 +5,7 @@ use mathlib.Core.Logic.{_≢_, _⊎_, inl, inr}
 use mathlib.Core.Bool.{Bool, true, cond}
 use mathlib.Core.List.{List, List·Memᴰ}
 use Prim.Native.Nat.{ℕ, zero, suc, _+_, _-_, _*_, _/_, _%_, _≤_, _<_}
-use native.Mathlib.Nat.{le-trans, le-of-eq, not-le-of-lt, mod-lt, zero-lt-suc}
+use native.Mathlib.Nat.{le-trans, le-of-eq, not-le-of-lt, mod-lt, zero-lt-suc, add-mod, mod-add-mod, add-sub-cancel-left}
 use native.Mathlib.Omega.{arith}
 use borrow.Author.Tests.{lt-ltb, le-ltb}
 use lib.Dec.{T, ltb}
@@ -113,13 +113,7 @@ pub up24 : {j : ℕ} → j < 8 → 16 + j < 24
 up24 h = omega arith
 
 mod3 : (a b c : ℕ) → (a + b + c) % 2 ≡ (a % 2 + b % 2 + c % 2) % 2
-mod3 a b c = one (a + b) c ∙ ap (λ (z : ℕ). (z + c % 2) % 2) (one a b) ∙ drop (a % 2 + b % 2) (c % 2)
-  where
-    one : (x y : ℕ) → (x + y) % 2 ≡ (x % 2 + y % 2) % 2
-    one x y = omega arith
-
-    drop : (x y : ℕ) → (x % 2 + y) % 2 ≡ (x + y) % 2
-    drop x y = omega arith
+mod3 a b c = add-mod (a + b) c 2 ∙ ap (λ (z : ℕ). (z + c % 2) % 2) (add-mod a b 2) ∙ mod-add-mod (a % 2 + b % 2) 2 (c % 2)
 
 pub turn : (r d p : ℕ) → p < 2 → (r + d + (p + r + d) % 2) % 2 ≡ p
 turn r d p h = omega arith
@@ -136,19 +130,13 @@ pub glue2 : {A : Type 0} (a b c : ℕ → A) (j : ℕ) → j < 8 → glue a b c 
 unfolding glue
 glue2 a b c j h =
     ap (λ (t : Bool). cond t (a (8 + j)) (cond (ltb (8 + j) 16) (b (8 + j - 8)) (c (8 + j - 16)))) (le-ltb (8 + j) 8 (omega arith))
-    ∙ ap (λ (t : Bool). cond t (b (8 + j - 8)) (c (8 + j - 16))) (lt-ltb (8 + j) 16 (omega arith)) ∙ ap b (sub-add 8 j)
-  where
-    sub-add : (m j : ℕ) → m + j - m ≡ j
-    sub-add m j = omega arith
+    ∙ ap (λ (t : Bool). cond t (b (8 + j - 8)) (c (8 + j - 16))) (lt-ltb (8 + j) 16 (omega arith)) ∙ ap b (add-sub-cancel-left 8 j)
 
 pub glue3 : {A : Type 0} (a b c : ℕ → A) (j : ℕ) → j < 8 → glue a b c (16 + j) ≡ c j
 unfolding glue
 glue3 a b c j h =
     ap (λ (t : Bool). cond t (a (16 + j)) (cond (ltb (16 + j) 16) (b (16 + j - 8)) (c (16 + j - 16)))) (le-ltb (16 + j) 8 (omega arith))
-    ∙ ap (λ (t : Bool). cond t (b (16 + j - 8)) (c (16 + j - 16))) (le-ltb (16 + j) 16 (omega arith)) ∙ ap c (sub-add 16 j)
-  where
-    sub-add : (m j : ℕ) → m + j - m ≡ j
-    sub-add m j = omega arith
+    ∙ ap (λ (t : Bool). cond t (b (16 + j - 8)) (c (16 + j - 16))) (le-ltb (16 + j) 16 (omega arith)) ∙ ap c (add-sub-cancel-left 16 j)
 
 -- ---- a lattice point by sections
 module _ (g : Tables) (B : Bytes g) where

@@ -10,7 +10,7 @@ use lib.Ieee.{Float, binary64, add, sub}
 use Rattle.float.specs.Value.{U}
 use Rattle.float.specs.Laws.Near.{Near}
 use Rattle.search.specs.declared.Coord.{Coord}
-use Rattle.search.specs.Record.{coordAt, slotK, row, member, sqTo}
+use Rattle.search.specs.Record.{coordAt, row, member, sqTo}
 use Rattle.search.specs.declared.Closed.{Closed}
 use Rattle.search.specs.declared.Candidate.{Candidate}
 use Rattle.search.specs.Base.{slotOf, nowTo}
@@ -42,12 +42,6 @@ module _ (ts : List Float) (p c : ℕ) (P0 : p < 2) (T0 : (j : ℕ) → j < 8 �
       abbrev kM : ℕ → ℤ
       kM = kPair e j0 fix i fj l f2
 
-      at-i : kM i ≡ slotK (coordAt e i .k0) fj
-      at-i = pair-i e j0 fix i fj l f2 D0
-
-      at-l : kM l ≡ slotK (coordAt e l .k0) f2
-      at-l = pair-l e j0 fix i fj l f2 D0
-
       small : (j : ℕ) → j < 8 → natAbs (kM j) < 31
       small j h = pair-each e j0 fix i fj l f2 D0
           (λ (k : ℤ). natAbs k < 31) (slot-small (coordAt e i .k0) fj (R .small i I0) F1)
@@ -71,8 +65,8 @@ module _ (ts : List Float) (p c : ℕ) (P0 : p < 2) (T0 : (j : ℕ) → j < 8 �
             (8 * (ET + H) + ET + H + ET + H + ET + H + ET + H))
             (sym
             (four-f _ _ _ _ _ _ _ _ (R .d-is i (slotOf j0 fix i) I0 (slot-lt j0 fix i F0)) (R .d-is l (slotOf j0 fix l) L0 (slot-lt j0 fix l F0))
-            (R .d-is i fj I0 F1 ∙ ap (λ (z : ℤ). sqTo (member (oAt p c i) z) (tAt ts i)) (sym at-i))
-            (R .d-is l f2 L0 F2 ∙ ap (λ (z : ℤ). sqTo (member (oAt p c l) z) (tAt ts l)) (sym at-l))))
+            (R .d-is i fj I0 F1 ∙ ap (λ (z : ℤ). sqTo (member (oAt p c i) z) (tAt ts i)) (sym (pair-i e j0 fix i fj l f2 D0)))
+            (R .d-is l f2 L0 F2 ∙ ap (λ (z : ℤ). sqTo (member (oAt p c l) z) (tAt ts l)) (sym (pair-l e j0 fix i fj l f2 D0)))))
             (two-cand ts p c P0 T0 (kBase e j0 fix) kM i l I0 L0 D0 small (pair-off e j0 fix i fj l f2 D0) (now .cost) (now .key)
             (now .dist) base .near);
       }

@@ -10,13 +10,13 @@ use Rattle.trellis.specs.Laws.Path.{prefix-lt, middle-lt, next-entry-lt}
 use Rattle.trellis.specs.Laws.Rows.{prefix-read, middle-read}
 use Rattle.search.specs.Tables.{tables}
 use Rattle.search.specs.Laws.Tables.{entry-at, entry-byte}
-use Rattle.fallbacks.specs.Region.{InRegion, byteOf, keyOf}
-use Rattle.fallbacks.specs.Fallbacks.{fallback-least}
+use Rattle.fallbacks.specs.Region.{byteOf, keyOf}
 use Rattle.fallbacks.specs.Laws.Member.{member-class, member-ranks, member-lt, member-even}
 use Rattle.nearest.specs.Laws.Packed.{key-class}
 use Rattle.nearest.specs.Laws.Winner.{GoodTables}
 use Rattle.nearest.specs.Laws.Premises.{MoreTables}
 use Rattle.nearest.specs.Laws.Sections.{Bytes}
+use Rattle.fallbacks.specs.Laws.Entries.{entry-member}
 
 -- ---- bytes
 pub tables-bytes : Bytes tables
@@ -32,22 +32,19 @@ tables-good =
     record { ix-lt = λ k h. omega (arith, entry-at k h); nxt-lt = λ k h. next-entry-lt k; ix-byte = entry-byte }
 
 -- ---- fallbacks: members of their regions, so a byte of the state, ranks below 8, the class of the region
-pub entry-in : (kind p r st : ℕ) → kind < 2 → p < 2 → r < 2 → st < 64 → InRegion kind r st (byteOf kind p r st) (keyOf kind p r st)
-entry-in kind p r st a b c d = fallback-least kind p r st a b c d .member
-
 pub tables-more : MoreTables tables
 tables-more =
     record {
       cost0 = lit≤ tt;
       cost1 = le-refl 96;
       costM = lit≤ tt;
-      fb-byte = λ kind p r st a b c d. let m = entry-in kind p r st a b c d in (m .b, m .b-lt, m .byte);
+      fb-byte = λ kind p r st a b c d. let m = entry-member kind p r st a b c d in (m .b, m .b-lt, m .byte);
       fb-rank = λ kind p r st j a b c d h.
           let key = keyOf kind p r st in
           subst (λ (n : ℕ). n < 8) (unpack-at 8 key j h)
-          (below-at 8 (unpack 8 key) (member-ranks kind r st _ key c (entry-in kind p r st a b c d)) j h);
+          (below-at 8 (unpack 8 key) (member-ranks kind r st _ key c (entry-member kind p r st a b c d)) j h);
       fb-class = λ kind p r st a b c d.
-          let m = entry-in kind p r st a b c d in
+          let m = entry-member kind p r st a b c d in
           key-class p (byteOf kind p r st) (keyOf kind p r st) b (member-lt kind r st _ _ c m) (member-even kind r st _ _ c m d)
           (member-ranks kind r st _ _ c m)
           ∙ member-class kind r st _ _ c m;

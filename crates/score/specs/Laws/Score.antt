@@ -23,6 +23,7 @@ use native.Mathlib.Nat.{
   mul-le-mul-left,
   mul-le-mul-right,
   le-of-mul-le-mul-right,
+  le-add-right,
 }
 use native.Mathlib.Omega.{arith}
 use lib.Dec.{T, lit≤}
@@ -106,10 +107,7 @@ module _ (t b : ℕ) (B : b ≤ 1023) (H : halfUlp b ≤ t) where
   sum-small : (acc : Float) (ts : List Float) (c : ℕ) → UpTo c acc → Each (UpTo t) ts → c + length ts * (2 * t) < 2 ^ (b + 1074)
       → UpTo (c + length ts * (2 * t)) (sumFrom acc ts)
   unfolding sumFrom
-  sum-small acc [] c u none h = record { fit = u .fit; fin = u .fin; le = le-trans (u .le) (from c (0 * (2 * t))) }
-    where
-      from : (c z : ℕ) → c ≤ c + z
-      from c z = omega arith
+  sum-small acc [] c u none h = record { fit = u .fit; fin = u .fin; le = le-trans (u .le) (le-add-right c (0 * (2 * t))) }
   sum-small acc (x ∷ xs) c u (more w e) h =
       let l = length xs * (2 * t) in
       let s : suc (length xs) * (2 * t) ≡ l + 2 * t = suc-mul (length xs) (2 * t) in

@@ -2,7 +2,7 @@
 use mathlib.Core.Path.{_≡_, refl, ap, sym, _∙_}
 use mathlib.Core.List.{List, [], _∷_, map}
 use Prim.Native.Nat.{ℕ, zero, suc, _+_, _%_, _<_, suc-le-suc}
-use native.Mathlib.Nat.{not-suc-le-zero, le-of-suc-le-suc, zero-lt-suc}
+use native.Mathlib.Nat.{not-suc-le-zero, le-of-suc-le-suc, zero-lt-suc, add-mod-mod}
 use native.Mathlib.Omega.{arith}
 use lib.Dec.{T, eqb, eqb→eq}
 use lib.IntN.{ℤ, pos}
@@ -91,10 +91,7 @@ k-sums y [] = refl
 k-sums y (i ∷ l) =
     parity-add (kOf (getD y i (pos 0))) (kSum (map (λ (j : ℕ). getD y j (pos 0)) l))
     ∙ ap (λ (n : ℕ). (modZ (kOf (getD y i (pos 0))) 2 + n) % 2) (k-sums y l)
-    ∙ last (modZ (kOf (getD y i (pos 0))) 2) (sums (λ (j : ℕ). modZ (kOf (getD y j (pos 0))) 2) l)
-  where
-    last : (a b : ℕ) → (a + b % 2) % 2 ≡ (a + b) % 2
-    last a b = omega arith
+    ∙ add-mod-mod (modZ (kOf (getD y i (pos 0))) 2) (sums (λ (j : ℕ). modZ (kOf (getD y j (pos 0))) 2) l) 2
 
 -- 0, 1, .., 23
 count : List ℕ

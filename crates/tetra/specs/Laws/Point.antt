@@ -3,8 +3,9 @@
 use mathlib.Core.Path.{_≡_, refl, ap, ap₂, sym, subst, _∙_}
 use mathlib.Core.List.{List, [], _∷_, _++_, map}
 use Prim.Native.Nat.{ℕ, zero, suc, _+_, _*_, _/_, _%_, _^_, _<_, _≤_}
-use native.Mathlib.Nat.{not-suc-le-zero, le-of-suc-le-suc, div-one, mod-eq-of-lt, zero-add, add-assoc, zero-mul, suc-mul}
+use native.Mathlib.Nat.{not-suc-le-zero, le-of-suc-le-suc, div-one, mod-eq-of-lt, zero-add, add-assoc, zero-mul, suc-mul, add-mod, add-mod-mod}
 use native.Mathlib.Omega.{arith}
+use native.Mathlib.Numerals.{one-add}
 use lib.Pow.{shr-shr}
 use lib.Dec.{T, leb, leb→le}
 use lib.IntN.{ℤ, pos, natAbs}
@@ -56,15 +57,9 @@ pub class-three : (u v w : List ℕ) → class (u ++ (v ++ w)) ≡ (class u + cl
 class-three u v w =
     ap (λ (n : ℕ). n % 2) (k-append u (v ++ w) ∙ ap (λ (n : ℕ). kZero u + n) (k-append v w)) ∙ three (kZero u) (kZero v) (kZero w)
   where
-    two : (a b : ℕ) → (a + b) % 2 ≡ (a % 2 + b % 2) % 2
-    two a b = omega arith
-
-    last : (x y : ℕ) → (x + y % 2) % 2 ≡ (x + y) % 2
-    last x y = omega arith
-
     three : (a b c : ℕ) → (a + (b + c)) % 2 ≡ (a % 2 + b % 2 + c % 2) % 2
     three a b c =
-        two a (b + c) ∙ ap (λ (x : ℕ). (a % 2 + x) % 2) (two b c) ∙ last (a % 2) (b % 2 + c % 2)
+        add-mod a (b + c) 2 ∙ ap (λ (x : ℕ). (a % 2 + x) % 2) (add-mod b c 2) ∙ add-mod-mod (a % 2) (b % 2 + c % 2) 2
         ∙ ap (λ (x : ℕ). x % 2) (sym (add-assoc (a % 2) (b % 2) (c % 2)))
 
 -- ---- the sum of k over a row of 24 coordinates of one parity whose bits are a codeword: its weight is even, so bits count for nothing
@@ -91,10 +86,7 @@ point-at p c [] j h = absurd (not-suc-le-zero h)
 point-at p c (r ∷ v) zero h = ap (λ (x : ℕ). valOf (p + 2 * (x % 2)) r) (sym (div-one c))
 point-at p c (r ∷ v) (suc j) h =
     point-at p (c / 2) v j (le-of-suc-le-suc h)
-    ∙ ap (λ (x : ℕ). valOf (p + 2 * (x % 2)) (getD v j 0)) (shr-shr c 1 j ∙ ap (λ (n : ℕ). c / 2 ^ n) (one-more j))
-  where
-    one-more : (j : ℕ) → 1 + j ≡ suc j
-    one-more j = omega arith
+    ∙ ap (λ (x : ℕ). valOf (p + 2 * (x % 2)) (getD v j 0)) (shr-shr c 1 j ∙ ap (λ (n : ℕ). c / 2 ^ n) (one-add j))
 
 -- of rank 4 or less a coordinate is at most 10 in magnitude
 all-small : T (upto 4 (λ (o : ℕ). upto 5 (λ (r : ℕ). leb (natAbs (valOf o r)) 10)))

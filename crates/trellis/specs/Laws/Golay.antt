@@ -4,7 +4,7 @@
 use mathlib.Core.Path.{_≡_, _∙_, sym, refl, ap, ap₂}
 use mathlib.Core.List.{List, [], _∷_, map}
 use Prim.Native.Nat.{ℕ, zero, suc, _+_, _*_, _/_, _%_, _^_, _<_}
-use native.Mathlib.Nat.{add-comm, mul-comm, mul-zero, mul-one, mod-lt, mod-eq-of-lt, zero-lt-suc}
+use native.Mathlib.Nat.{add-comm, mul-comm, mul-zero, mul-one, mod-lt, mod-eq-of-lt, zero-lt-suc, add-mod, mod-add-mod}
 use native.Mathlib.Omega.{arith}
 use lib.Dec.{T, ltb, ltb→lt}
 use lib.Bits.{bitXor, differ, xor-lt, xor-shifted}
@@ -50,17 +50,11 @@ differ-sum (suc zero) (suc zero) h k = refl
 differ-sum (suc zero) (suc (suc y)) h k = absurd (omega arith)
 differ-sum (suc (suc x)) y h k = absurd (omega arith)
 
-odd-add : (x y : ℕ) → (x % 2 + y % 2) % 2 ≡ (x + y) % 2
-odd-add x y = omega arith
-
-odd-low : (x y : ℕ) → (x % 2 + y) % 2 ≡ (x + y) % 2
-odd-low x y = omega arith
-
 odd-step : (o a b w u v : ℕ) → o ≡ (a + b) % 2 → w % 2 ≡ (u % 2 + v % 2) % 2 → (o + w) % 2 ≡ ((a + u) % 2 + (b + v) % 2) % 2
 odd-step o a b w u v e f =
     let r : a + b + (u + v) ≡ a + u + (b + v) = omega arith in
-    sym (odd-add o w) ∙ ap₂ (λ (x y : ℕ). (x % 2 + y) % 2) e (f ∙ odd-add u v) ∙ odd-add ((a + b) % 2) (u + v) ∙ odd-low (a + b) (u + v)
-    ∙ ap (λ (n : ℕ). n % 2) r ∙ sym (odd-add (a + u) (b + v))
+    add-mod o w 2 ∙ ap₂ (λ (x y : ℕ). (x % 2 + y) % 2) e (f ∙ sym (add-mod u v 2)) ∙ sym (add-mod ((a + b) % 2) (u + v) 2)
+    ∙ mod-add-mod (a + b) 2 (u + v) ∙ ap (λ (n : ℕ). n % 2) r ∙ add-mod (a + u) (b + v) 2
 
 odd-sum : (d a b : ℕ) → weight d (bitXor a b) % 2 ≡ (weight d a % 2 + weight d b % 2) % 2
 odd-sum zero a b = refl

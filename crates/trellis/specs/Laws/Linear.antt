@@ -14,9 +14,7 @@ use lib.Bits.{bitXor, xor-lt, xor-comm, xor-shifted}
 use Rattle.laws.specs.Laws.Tests.{and-left, and-right}
 use Rattle.trellis.specs.Laws.Xor.{xor-half, xor-odd, xor-swap, xor-times}
 use Rattle.trellis.specs.Code.{codewordOf}
-
-bit : (x : ℕ) → x % 2 < 2
-bit x = omega arith
+use Rattle.laws.specs.Laws.Whole.{bit-small}
 
 -- a number taken or left by a bit fits where it did
 pub bit-lt : (c b n : ℕ) → c < 2 ^ n → b < 2 → c * b < 2 ^ n
@@ -29,7 +27,7 @@ pub linear : (cs : List ℕ) (x y : ℕ) → codewordOf cs (bitXor x y) ≡ bitX
 linear [] x y = refl
 linear (c ∷ cs) x y =
     ap₂ (λ (u v : ℕ). bitXor (c * u) (codewordOf cs v)) (xor-odd x y) (xor-half x y)
-    ∙ ap₂ bitXor (xor-times c (x % 2) (y % 2) (bit x) (bit y)) (linear cs (x / 2) (y / 2))
+    ∙ ap₂ bitXor (xor-times c (x % 2) (y % 2) (bit-small x) (bit-small y)) (linear cs (x / 2) (y / 2))
     ∙ xor-swap (c * (x % 2)) (c * (y % 2)) (codewordOf cs (x / 2)) (codewordOf cs (y / 2))
 
 pub word-zero : (cs : List ℕ) → codewordOf cs 0 ≡ 0
@@ -45,7 +43,7 @@ times-bit cs c (suc (suc b)) h = absurd (omega arith)
 pub compose : (bs cs : List ℕ) (x : ℕ) → codewordOf bs (codewordOf cs x) ≡ codewordOf (map (codewordOf bs) cs) x
 compose bs [] x = word-zero bs
 compose bs (c ∷ cs) x =
-    linear bs (c * (x % 2)) (codewordOf cs (x / 2)) ∙ ap₂ bitXor (times-bit bs c (x % 2) (bit x)) (compose bs cs (x / 2))
+    linear bs (c * (x % 2)) (codewordOf cs (x / 2)) ∙ ap₂ bitXor (times-bit bs c (x % 2) (bit-small x)) (compose bs cs (x / 2))
 
 -- ---- the columns 1, 2, 4, .. give the number itself, as far as they go
 abbrev pub powers : ℕ → ℕ → List ℕ
@@ -64,7 +62,7 @@ powers-word zero k x = sym (ap (λ (m : ℕ). m * 2 ^ k) (mod-one x) ∙ zero-mu
 powers-word (suc n) k x =
     ap (λ (w : ℕ). bitXor (2 ^ k * (x % 2)) w) (powers-word n (suc k) (x / 2))
     ∙ xor-comm (2 ^ k * (x % 2)) (x / 2 % 2 ^ n * 2 ^ suc k)
-    ∙ xor-shifted (x / 2 % 2 ^ n) (suc k) (2 ^ k * (x % 2)) (bit-lt (2 ^ k) (x % 2) (suc k) (pow-lt (lt-suc-self k)) (bit x))
+    ∙ xor-shifted (x / 2 % 2 ^ n) (suc k) (2 ^ k * (x % 2)) (bit-lt (2 ^ k) (x % 2) (suc k) (pow-lt (lt-suc-self k)) (bit-small x))
     ∙ ap (λ (P : ℕ). x / 2 % 2 ^ n * P + 2 ^ k * (x % 2)) (pow-suc 2 k)
     ∙ split-times (x / 2 % 2 ^ n) (x % 2) (2 ^ k)
     ∙ ap (λ (m : ℕ). m * 2 ^ k) (low-digit x n)
@@ -90,5 +88,5 @@ pub word-below : (n : ℕ) (cs : List ℕ) → T (allBelow n cs) → (x : ℕ) �
 word-below n [] t x = pow-pos n
 word-below n (c ∷ cs) t x =
     xor-lt n (c * (x % 2)) (codewordOf cs (x / 2))
-    (bit-lt c (x % 2) n (ltb→lt c (2 ^ n) (and-left (ltb c (2 ^ n)) (allBelow n cs) t)) (bit x))
+    (bit-lt c (x % 2) n (ltb→lt c (2 ^ n) (and-left (ltb c (2 ^ n)) (allBelow n cs) t)) (bit-small x))
     (word-below n cs (and-right (ltb c (2 ^ n)) (allBelow n cs) t) (x / 2))

@@ -5,9 +5,7 @@ use native.Mathlib.Nat.{mul-zero}
 use native.Mathlib.Omega.{arith}
 use lib.Arith.{bin-ind, digits-div, digits-mod}
 use lib.Bits.{bitXor, differ, xor-step, xor-comm, xor-zero-r, xor-self}
-
-bit : (x : ℕ) → x % 2 < 2
-bit x = omega arith
+use Rattle.laws.specs.Laws.Whole.{bit-small}
 
 differ-lt : (x y : ℕ) → x < 2 → y < 2 → differ x y < 2
 differ-lt zero y h k = k
@@ -19,11 +17,11 @@ differ-lt (suc (suc x)) y h k = absurd (omega arith)
 -- ---- bit by bit
 pub xor-half : (a b : ℕ) → bitXor a b / 2 ≡ bitXor (a / 2) (b / 2)
 xor-half a b =
-    ap (λ (x : ℕ). x / 2) (xor-step a b) ∙ digits-div (bitXor (a / 2) (b / 2)) (differ-lt (a % 2) (b % 2) (bit a) (bit b))
+    ap (λ (x : ℕ). x / 2) (xor-step a b) ∙ digits-div (bitXor (a / 2) (b / 2)) (differ-lt (a % 2) (b % 2) (bit-small a) (bit-small b))
 
 pub xor-odd : (a b : ℕ) → bitXor a b % 2 ≡ differ (a % 2) (b % 2)
 xor-odd a b =
-    ap (λ (x : ℕ). x % 2) (xor-step a b) ∙ digits-mod (bitXor (a / 2) (b / 2)) (differ-lt (a % 2) (b % 2) (bit a) (bit b))
+    ap (λ (x : ℕ). x % 2) (xor-step a b) ∙ digits-mod (bitXor (a / 2) (b / 2)) (differ-lt (a % 2) (b % 2) (bit-small a) (bit-small b))
 
 differ-assoc : (x y z : ℕ) → x < 2 → y < 2 → z < 2 → differ (differ x y) z ≡ differ x (differ y z)
 differ-assoc zero y z hx hy hz = refl
@@ -41,7 +39,7 @@ xor-assoc a =
     xor-step (bitXor n b) c
     ∙ ap₂ (λ (x y : ℕ). x * 2 + y)
     (ap (λ (x : ℕ). bitXor x (c / 2)) (xor-half n b) ∙ ih (b / 2) (c / 2) ∙ ap (λ (x : ℕ). bitXor (n / 2) x) (sym (xor-half b c)))
-    (ap (λ (x : ℕ). differ x (c % 2)) (xor-odd n b) ∙ differ-assoc (n % 2) (b % 2) (c % 2) (bit n) (bit b) (bit c)
+    (ap (λ (x : ℕ). differ x (c % 2)) (xor-odd n b) ∙ differ-assoc (n % 2) (b % 2) (c % 2) (bit-small n) (bit-small b) (bit-small c)
     ∙ ap (λ (x : ℕ). differ (n % 2) x) (sym (xor-odd b c)))
     ∙ sym (xor-step n (bitXor b c))) a
 
