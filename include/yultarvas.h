@@ -3,7 +3,8 @@
  * yultarvas` builds it for the machine that it stands on.
  *
  * Answers. Each call answers YULTARVAS_OK or the number of the refusal, and on a refusal writes nothing.
- * Where more than one number would fit, the first of those that stand behind 'Refused:' is answered.
+ * Where more than one number would fit, the first of those that stand behind 'Refused:' is answered. The
+ * answer of yultarvas_write_page carries a block beside the number.
  *
  * Slices. A slice is a pointer and its length in elements, in this order; the length is at most PTRDIFF_MAX
  * bytes. A block of 24 stands at a slice's start; of a longer slice the rest is neither read nor written. A
@@ -15,8 +16,8 @@
  * stack, so any number of threads may call at once, as long as they do not lend the same memory for writing.
  * No call allocates or locks; of the host it uses memcpy, memmove and memset alone.
  *
- * Stack. yultarvas_encode, yultarvas_encode_with and yultarvas_encode_at_scale take up to 120 KB of stack
- * (119,920 bytes on aarch64), the other calls up to 19 KB. No theorem bounds the stack:
+ * Stack. yultarvas_encode, yultarvas_encode_with, yultarvas_encode_at_scale and yultarvas_write_page take
+ * up to 121 KB of stack (120,816 bytes on aarch64), the other calls up to 19 KB. No theorem bounds the stack:
  * tools/stack.sh measures it. Have YULTARVAS_STACK bytes left.
  *
  * Doubles. The contracts are over IEEE 754 doubles, rounded to nearest with ties to even, subnormal numbers
@@ -34,14 +35,16 @@ extern "C" {
 
 /* The version of this header and of the calls that it declares. */
 #define YULTARVAS_VERSION_MAJOR 0
-#define YULTARVAS_VERSION_MINOR 2
+#define YULTARVAS_VERSION_MINOR 3
 #define YULTARVAS_VERSION_PATCH 0
-#define YULTARVAS_VERSION "0.2.0"
+#define YULTARVAS_VERSION "0.3.0"
 
-/* Samples of a block, coordinates of a point; the most blocks of a page; the most counts of a page. */
+/* Samples of a block, coordinates of a point; the most blocks of a page; the most counts of a page; the most
+ * bytes of a page's text. */
 #define YULTARVAS_BLOCK 24
 #define YULTARVAS_PAGE_BLOCKS 64
 #define YULTARVAS_PAGE_COUNTS 1536
+#define YULTARVAS_PAGE_TEXT 1189
 
 /* Bytes of stack that a thread should have left for any one call: more than twice what was measured. */
 #define YULTARVAS_STACK 327680
@@ -50,13 +53,13 @@ extern "C" {
 enum yultarvas_number {
     YULTARVAS_OK = 0,
     YULTARVAS_NOT_FINITE = 1,      /* a sample is NaN or infinite */
-    YULTARVAS_TOO_LARGE = 2,       /* a sample's magnitude exceeds 1e290 */
-    YULTARVAS_BAD_SCALE = 3,       /* the scale is not a finite number above 0 */
+    YULTARVAS_TOO_LARGE = 2,       /* a sample's magnitude exceeds 1e290; one of a page, 32767 */
+    YULTARVAS_BAD_SCALE = 3,       /* the scale is not a finite number above 0; a num, not from 1 to 65535 */
     YULTARVAS_FAR_QUOTIENT = 4,    /* a sample over the scale exceeds 1e6 in magnitude */
     YULTARVAS_NO_WORD = 5,         /* no word decodes to the point */
     YULTARVAS_BAD_SETTING = 7,     /* the setting of the shrinks is 0 */
     YULTARVAS_NO_ROOM = 8,         /* a slice is too short */
-    YULTARVAS_NO_PAGE = 9          /* the text is no page */
+    YULTARVAS_NO_PAGE = 9          /* the text is no page; or there are too many blocks for one */
 };
 
 /* What yultarvas_environment answers. */
@@ -112,6 +115,25 @@ uint32_t yultarvas_read_page(const uint8_t *text, size_t text_len, int32_t *coun
  * places hold any page. Refused: 9, 8. */
 uint32_t yultarvas_parse_page(const uint8_t *text, size_t text_len, uint32_t *num, uint64_t *words,
                               size_t words_len, size_t *count);
+
+/* The text of the page of num and of count blocks, 24 whole samples each, into text, and its length into
+ * length: yultarvas_read_page and yultarvas_parse_page accept it, with the same num and the same words. Each
+ * block is coded by yultarvas_encode_at_scale at the scale num / 256 and the setting 8. Samples behind
+ * 24 * count are not looked at. YULTARVAS_PAGE_TEXT places hold any page; no 0 byte is put behind the text.
+ *
+ * The answer has the number in its low 32 bits, and above them a block: with 2 and 4 the lowest block that
+ * has them, else 0. Refused: 3 for num 0 or above 65535, 9 for more than 64 blocks, 8 for fewer than 24
+ * samples a block, 2 for a sample beyond 32767 in magnitude in any block, 4 likewise, 8 for the text. */
+uint64_t yultarvas_write_page(uint32_t num, size_t count, const int32_t *samples, size_t samples_len,
+                              uint8_t *text, size_t text_len, size_t *length);
+
+/* The two parts of that answer. */
+static inline uint32_t yultarvas_number_of(uint64_t answer) {
+    return (uint32_t)(answer & 0xffffffff);
+}
+static inline size_t yultarvas_block_of(uint64_t answer) {
+    return (size_t)(answer >> 32);
+}
 
 /* ---- the environment */
 

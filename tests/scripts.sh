@@ -29,15 +29,26 @@ cat >"$work/repo/target/bin/unpage" <<'STAND_IN'
 if [ -n "${FAILS:-}" ]; then echo "unpage: standard input cannot be read" >&2; exit 0; fi
 if grep -q 'count=1'; then echo block=0; echo counts=1,1,1,1,1,1,1,1,1,1,1,1,1,1,1,1,1,1,1,1,1,1,1,-2; else echo refused=9; fi
 STAND_IN
+# Answers the page of the example where the input is its trace, refuses num=1 with a 4 in block 0, and any other text with 9.
+cat >"$work/repo/target/bin/mkpage" <<'STAND_IN'
+#!/usr/bin/env bash
+if [ -n "${FAILS:-}" ]; then echo "mkpage: standard input cannot be read" >&2; exit 0; fi
+case $(head -n 1) in
+num=256) printf 'format=tetra-page\nnum=256\ncount=1\nword=000000003800\n' ;;
+num=1) printf 'refused=4\nblock=0\n' ;;
+*) echo refused=9 ;;
+esac
+STAND_IN
 cat >"$work/repo/target/bin/ask" <<'STAND_IN'
 #!/usr/bin/env bash
 while read -r line; do case $line in 'decode 1') echo point=1 ;; *) echo refused=9 ;; esac; done
 STAND_IN
 chmod +x "$work/bin/rt" "$work/repo/target/bin/"*
 export PATH=$work/bin:$PATH RUN=env CALLED=$work/called
-unset ORACLE ASK GEN KINDS PROGRAM NEAREST UNPAGE PROGRAMS
+unset ORACLE ASK GEN KINDS PROGRAM NEAREST UNPAGE MKPAGE PROGRAMS
 cd "$work/repo"
 echo text >no.page
+sed 's/^num=256$/num=1/' samples/example.trace >far.trace
 sums() { sha256sum crates/*/stdin crates/*/stdout; }
 before=$(sums)
 
@@ -68,7 +79,7 @@ for script in tools/*.sh tools/nearest/*.sh tests/*.sh; do
     untouched 0 "bash $script" bash "$script" --help
     untouched 2 "bash $script" bash "$script" --no-such-option
 done
-for script in tools/float_vectors.py tests/pages.py tests/writes.py; do
+for script in tools/float_vectors.py tests/pages.py tests/writes.py tests/written.py; do
     untouched 0 "$script" python3 "$script" --help
     untouched 2 "$script" python3 "$script" --no-such-option
     untouched 2 "$script" python3 "$script" word
@@ -92,6 +103,21 @@ try 0 '^block,sample,count$' bash tools/csv.sh samples/example.page
 try 0 '^0,23,-2$' bash tools/csv.sh samples/example.page
 try 1 '^refused=9$' bash tools/csv.sh no.page
 
+untouched 2 'one trace' bash tools/mkpage.sh samples/example.trace samples/example.trace
+untouched 2 'no file no/such.trace' bash tools/mkpage.sh no/such.trace
+untouched 2 'no file $' bash tools/mkpage.sh ''
+untouched 2 'cannot be read' bash tools/mkpage.sh samples
+try 0 '^word=000000003800$' bash tools/mkpage.sh samples/example.trace
+try 0 '^word is proved (13 s)$' bash tools/mkpage.sh samples/example.trace
+try 0 '^word=000000003800$' bash -c 'bash tools/mkpage.sh <samples/example.trace'
+try 1 '^refused=9$' bash tools/mkpage.sh
+try 1 '^refused=9$' bash tools/mkpage.sh no.page
+try 1 '^refused=4$' bash tools/mkpage.sh far.trace
+try 1 '^block=0$' bash tools/mkpage.sh far.trace
+try 1 'target/mkpage.log has what' env RT_SAYS=no bash tools/mkpage.sh samples/example.trace
+try 1 'word NOT PROVED' env RT_SAYS=no bash tools/mkpage.sh samples/example.trace
+try 1 'cannot be read' env FAILS=1 bash tools/mkpage.sh samples/example.trace
+
 untouched 2 'no request decod' bash tools/ask.sh decod 1
 try 0 '^point=1$' bash tools/ask.sh decode 1
 try 1 '^refused=9$' bash tools/ask.sh decode g
@@ -113,6 +139,9 @@ untouched 2 'no program' env UNPAGE=no/such python3 tests/pages.py
 untouched 2 'no program no/such' python3 tests/pages.py --oracle no/such
 untouched 2 'does not know --oracle' python3 tests/pages.py --oracle
 untouched 2 'no program' env PROGRAMS=no/such python3 tests/writes.py
+untouched 2 'ORACLE has to name' python3 tests/written.py
+untouched 2 'ORACLE has to name' env ORACLE=no/such python3 tests/written.py
+untouched 2 'no program no/such' env ORACLE=true MKPAGE=no/such python3 tests/written.py --program
 
 if [ "$(sums)" != "$before" ]; then
     bad=$((bad + 1))

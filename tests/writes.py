@@ -2,14 +2,15 @@
 """Runs the programs where a write or a read fails. What arrives has to be the beginning of the right answers, and no more.
 
     tests/writes.py           runs every program that is named below
-    tests/writes.py NAME ..   runs these: ask, unpage, rank_runs, float_runs, page_runs
+    tests/writes.py NAME ..   runs these: ask, unpage, mkpage, rank_runs, float_runs, page_runs
     tests/writes.py --help    prints this
 
 From the environment:
     PROGRAMS  the folder of the programs; target/bin, run by tools/run.sh, where it is not set
     RUN       the command that runs a program, as an emulator and a loader with its options, where it needs one
 
-The programs get the input of their crate and are held to its stdout; ask also gets 40,000 words, whose points are worked out in pages.py.
+The programs get the input of their crate and are held to its stdout; ask also gets 40,000 words, whose points are worked out in pages.py, and
+mkpage a trace of 64 blocks, of two kinds whose words are known.
 Exit status: 0 all is as it should be; 1 something is not; 2 a wrong argument.
 """
 import fcntl
@@ -27,8 +28,8 @@ import pages
 
 ROOT = pages.ROOT
 PAGE = 4096  # the least that a pipe can hold
-NAMES = ["ask", "unpage", "rank_runs", "float_runs", "page_runs"]
-SAYS = ["ask", "unpage"]  # those that say on standard error that a read or a write failed
+NAMES = ["ask", "unpage", "mkpage", "rank_runs", "float_runs", "page_runs"]
+SAYS = ["ask", "unpage", "mkpage"]  # those that say on standard error that a read or a write failed
 LIMIT = 120  # seconds
 
 
@@ -52,6 +53,15 @@ def many():
     some = [(f"decode {w:x}\n".encode(), ("point=" + ",".join(map(str, pages.point(w))) + "\n").encode()) for w in pages.words(rng, 300)]
     drawn = [rng.choice(some) for _ in range(40000)]
     return b"".join(r for r, _ in drawn), b"".join(a for _, a in drawn)
+
+
+def long_trace():
+    """A trace of 64 blocks and its page: zeros, and the counts of document 01's example, in a random order."""
+    rng = random.Random(4)
+    some = [(",".join(["0"] * 24), 0), (",".join(["1"] * 23 + ["-2"]), 0x09B800F00100)]
+    drawn = [rng.choice(some) for _ in range(64)]
+    trace = "num=128\n" + "".join(f"block={i}\ncounts={counts}\n" for i, (counts, _) in enumerate(drawn))
+    return trace.encode(), pages.text_of(128, [word for _, word in drawn])
 
 
 def ignoring(number, limit=None):
@@ -247,21 +257,29 @@ def writes(tally, name, given, wanted):
     write_case(tally, name, "read in small parts", wanted, into_slow(name, given))
 
 
-def reads(tally):
-    """ask answers whole lines alone where a read fails, and unpage nothing; where the input ends they answer what there is."""
+def reads(tally, names):
+    """ask answers whole lines alone where a read fails, unpage and mkpage nothing; where the input ends they answer what there is."""
     lines, half = b"decode 0\ndecode 1\n", b"decode 1"
     zero, one = (("point=" + ",".join(map(str, pages.point(w))) + "\n").encode() for w in [0, 1])
     page = pages.EXAMPLE
-    for name, how, (got, said), wanted, fails in [
-            ("ask", "whole lines, then a read that fails", from_silent("ask", lines), zero + one, True),
-            ("ask", "half a line, then a read that fails", from_silent("ask", lines + half), zero + one, True),
-            ("ask", "a folder", from_folder("ask"), b"", True),
-            ("ask", "byte by byte, the last line with no LF", from_bytes("ask", lines + half), zero + one + one, False),
-            ("unpage", "a page, then a read that fails", from_silent("unpage", page), b"", True),
-            ("unpage", "half a page, then a read that fails", from_silent("unpage", page[:40]), b"", True),
-            ("unpage", "a folder", from_folder("unpage"), b"", True),
-            ("unpage", "byte by byte", from_bytes("unpage", page), pages.printed(page), False)]:
-        tally.note(name, how, got == wanted and bool(said) == fails, f"it wrote {got[:200]} and said {said}")
+    trace, made = file_of("mkpage", "stdin"), file_of("mkpage", "stdout")
+    for name, how, run, wanted, fails in [
+            ("ask", "whole lines, then a read that fails", lambda: from_silent("ask", lines), zero + one, True),
+            ("ask", "half a line, then a read that fails", lambda: from_silent("ask", lines + half), zero + one, True),
+            ("ask", "a folder", lambda: from_folder("ask"), b"", True),
+            ("ask", "byte by byte, the last line with no LF", lambda: from_bytes("ask", lines + half), zero + one + one, False),
+            ("unpage", "a page, then a read that fails", lambda: from_silent("unpage", page), b"", True),
+            ("unpage", "half a page, then a read that fails", lambda: from_silent("unpage", page[:40]), b"", True),
+            ("unpage", "a folder", lambda: from_folder("unpage"), b"", True),
+            ("unpage", "byte by byte", lambda: from_bytes("unpage", page), pages.printed(page), False),
+            ("mkpage", "a trace, then a read that fails", lambda: from_silent("mkpage", trace), b"", True),
+            ("mkpage", "half a trace, then a read that fails", lambda: from_silent("mkpage", trace[:40]), b"", True),
+            ("mkpage", "a trace of no blocks, then a read that fails", lambda: from_silent("mkpage", b"num=1\n"), b"", True),
+            ("mkpage", "a folder", lambda: from_folder("mkpage"), b"", True),
+            ("mkpage", "byte by byte", lambda: from_bytes("mkpage", trace), made, False)]:
+        if name in names:
+            got, said = run()
+            tally.note(name, how, got == wanted and bool(said) == fails, f"it wrote {got[:200]} and said {said}")
 
 
 def main(arguments):
@@ -283,8 +301,9 @@ def main(arguments):
         writes(tally, name, file_of(name, "stdin"), file_of(name, "stdout"))
     if "ask" in names:
         writes(tally, "ask", *many())
-    if "ask" in names and "unpage" in names:
-        reads(tally)
+    if "mkpage" in names:
+        writes(tally, "mkpage", *long_trace())
+    reads(tally, names)
     print(f"{tally.good} right, {tally.bad} not")
     return 1 if tally.bad else 0
 

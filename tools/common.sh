@@ -60,9 +60,11 @@ library() {
 }
 
 # Proves and builds the program $1, with a line on standard error for each crate that had to be proved. All
-# that the toolchain says goes to a file.
+# that the toolchain says goes to a file. Of two scripts in a pipe one waits for the other: the toolchain keeps
+# what it has proved in one folder.
 prove() {
-    local log=$root/target/$1.log status=0
+    local log=$root/target/$1.log status=0 alone=()
+    if command -v flock >/dev/null; then alone=(flock "$root/target/prove.lock"); fi
     if ! command -v rt >/dev/null; then
         echo "rt is not on the path: this needs the Rattle toolchain" >&2
         exit 2
@@ -71,7 +73,7 @@ prove() {
     if [ ! -e "$root/target/bin/$1" ]; then
         echo "proving and building $1 and the crates that it needs, which takes minutes (log: $log)" >&2
     fi
-    (cd "$root" && rt check "$1" </dev/null 2>&1) | tee "$log" | awk '
+    (cd "$root" && "${alone[@]}" rt check "$1" </dev/null 2>&1) | tee "$log" | awk '
         /^rt: [^ ]+ proved \([0-9]+ s\)$/ { print $2 " is proved " $4 " " $5; fflush() }' >&2 || status=$?
     if [ "$status" -ne 0 ]; then
         grep '^rt: .*\(NOT PROVED\|FAILED\)' "$log" >&2 || tail -n 3 "$log" >&2

@@ -82,6 +82,43 @@ static void pages(void) {
                && num == 128 && blocks == 1 && words[0] == 1);
 }
 
+/* A page of one block, which is read again; and refusals, the block of one among them. */
+static void written(void) {
+    int32_t samples[3 * YULTARVAS_BLOCK] = {4, 4};
+    uint8_t page[YULTARVAS_PAGE_TEXT];
+    size_t length = 7, blocks = 7;
+    uint64_t words[YULTARVAS_PAGE_BLOCKS];
+    uint32_t num = 7;
+    const char *one = "format=tetra-page\nnum=256\ncount=1\nword=000000003800\n";
+    memset(page, 'x', sizeof page);
+    expect("write_page, one byte less",
+           yultarvas_write_page(256, 1, samples, 24, page, 51, &length) == YULTARVAS_NO_ROOM && length == 7
+               && page[0] == 'x');
+    expect("write_page", yultarvas_write_page(256, 1, samples, 24, page, 52, &length) == YULTARVAS_OK
+                             && length == 52 && memcmp(page, one, 52) == 0 && page[52] == 'x');
+    expect("parse_page again",
+           yultarvas_parse_page(page, length, &num, words, YULTARVAS_PAGE_BLOCKS, &blocks) == YULTARVAS_OK
+               && num == 256 && blocks == 1 && words[0] == 0x3800);
+    samples[0] = 32767; /* too far for num 1, in block 0 */
+    samples[71] = -32768; /* too large, in block 2 */
+    uint64_t answer = yultarvas_write_page(1, 3, samples, 72, page, sizeof page, &length);
+    expect("write_page, a sample too large",
+           yultarvas_number_of(answer) == YULTARVAS_TOO_LARGE && yultarvas_block_of(answer) == 2);
+    samples[71] = 0;
+    expect("write_page, a quotient too far",
+           yultarvas_write_page(1, 3, samples, 72, page, sizeof page, &length) == YULTARVAS_FAR_QUOTIENT);
+    expect("write_page, num 0",
+           yultarvas_write_page(0, 65, NULL, 0, NULL, 0, &length) == YULTARVAS_BAD_SCALE);
+    expect("write_page, 65 blocks",
+           yultarvas_write_page(1, 65, NULL, 0, NULL, 0, &length) == YULTARVAS_NO_PAGE);
+    expect("write_page, 23 samples",
+           yultarvas_write_page(1, 1, samples, 23, NULL, 0, &length) == YULTARVAS_NO_ROOM && length == 52
+               && memcmp(page, one, 52) == 0);
+    expect("write_page, no block",
+           yultarvas_write_page(256, 0, NULL, 0, page, sizeof page, &length) == YULTARVAS_OK && length == 34
+               && memcmp(page, "format=tetra-page\nnum=256\ncount=0\n", 34) == 0);
+}
+
 /* (NULL, 0) is an empty slice, for each slice that a call takes. */
 static void nothing(void) {
     const uint8_t *empty = (const uint8_t *)"format=tetra-page\nnum=1\ncount=0\n";
@@ -119,6 +156,7 @@ int main(void) {
     words_and_points();
     samples();
     pages();
+    written();
     nothing();
     return failures != 0;
 }

@@ -19,6 +19,9 @@ static uint64_t word, words[YULTARVAS_PAGE_BLOCKS];
 static size_t blocks;
 static uint32_t num, setting;
 static char page[2048];
+static int32_t samples[YULTARVAS_PAGE_COUNTS];
+static size_t count, length;
+static uint8_t text[YULTARVAS_PAGE_TEXT];
 
 static uint64_t state = 1;
 static uint64_t random_bits(void) { /* xorshift64 */
@@ -27,6 +30,26 @@ static uint64_t random_bits(void) { /* xorshift64 */
     return state ^= state << 17;
 }
 static double unit(void) { return (double)(random_bits() >> 11) / 9007199254740992.0 - 0.5; }
+
+/* A page of 1 to 64 blocks of whole samples at num / 256: noise, a wave, quotients near whole numbers, spikes,
+ * zeros, and samples of the largest magnitude. None is farther out than its num allows. */
+static void draw_page(int shape) {
+    double quotient = 256.0 / num, most = 1e6 * num / 256;
+    if (most > 32767) most = 32767;
+    count = 1 + (size_t)(random_bits() % YULTARVAS_PAGE_BLOCKS);
+    for (size_t i = 0; i < count * YULTARVAS_BLOCK; i++) {
+        double u = unit(), y;
+        switch (shape) {
+        case 0: y = 40 * u / quotient; break;
+        case 1: y = ((double)(i % 8) - 3.5 + u) / quotient; break;
+        case 2: y = (double)(int)(u * 8) / quotient; break;
+        case 3: y = i % 7 == 0 ? 2 * most * u : u; break;
+        case 4: y = 0; break;
+        default: y = u < 0 ? -most : most; break;
+        }
+        samples[i] = (int32_t)(y < -most ? -most : y > most ? most : y);
+    }
+}
 
 /* Blocks of several shapes: noise, a wave, whole numbers, spikes, subnormal and huge samples. */
 static void draw(int shape) {
@@ -47,6 +70,7 @@ static void draw(int shape) {
     int at = sprintf(page, "format=tetra-page\nnum=%u\ncount=64\n", (unsigned)num);
     for (int i = 0; i < YULTARVAS_PAGE_BLOCKS; i++)
         at += sprintf(page + at, "word=%012llx\n", (unsigned long long)(random_bits() >> 16));
+    draw_page(shape);
 }
 
 /* ---- the calls, each on what was drawn; a wrong answer ends the program */
@@ -73,6 +97,10 @@ static void read_page(void) {
 static void parse_page(void) {
     must(yultarvas_parse_page((uint8_t *)page, strlen(page), &num, words, YULTARVAS_PAGE_BLOCKS, &blocks));
 }
+static void write_page(void) {
+    must(yultarvas_number_of(yultarvas_write_page(num, count, samples, YULTARVAS_PAGE_COUNTS, text,
+                                                  YULTARVAS_PAGE_TEXT, &length)));
+}
 static void environment(void) { must(yultarvas_environment_now()); }
 
 /* decode leaves the point that encode_point takes, lower_scale the scale that encode_at_scale takes. */
@@ -89,6 +117,7 @@ static const struct {
     {"t_of", t_of},
     {"read_page", read_page},
     {"parse_page", parse_page},
+    {"write_page", write_page},
     {"environment", environment},
 };
 enum { CALLS = sizeof calls / sizeof calls[0] };
@@ -151,7 +180,8 @@ int main(void) {
     }
     size_t kib = 4;
     while (kib < ROOM / 1024 && !works(kib * 1024)) kib += 4;
-    printf("most: %zu bytes, over %d blocks of %d shapes; smallest thread that makes every call: %zu KiB\n",
-           all, ROUNDS, SHAPES, kib);
+    printf("most: %zu bytes, over %d blocks and %d pages of %d shapes each; smallest thread that makes every "
+           "call: %zu KiB\n",
+           all, ROUNDS, ROUNDS, SHAPES, kib);
     return 2 * all > YULTARVAS_STACK; /* the header's figure is to be twice the measured one or more */
 }

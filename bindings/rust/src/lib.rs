@@ -9,13 +9,15 @@
 //! numbers kept, as a thread starts. A program that calls C code which sets another rounding mode or
 //! flush-to-zero gets other answers with no refusal; [`environment`] tells.
 //!
-//! **Stack.** [`encode`], [`encode_with`] and [`encode_at_scale`] take up to 120 KB of stack (119,920 bytes
-//! on aarch64: measured by tools/stack.sh, no theorem bounds it): more than some threads have. Have [`STACK`] bytes left.
+//! **Stack.** [`encode`], [`encode_with`], [`encode_at_scale`] and [`write_page`] take up to 121 KB of stack
+//! (120,816 bytes on aarch64; tools/stack.sh measures it, and no theorem bounds it): more than some threads
+//! have. Have [`STACK`] bytes left.
 //!
 //! **Threads.** No call keeps anything, allocates or locks: any number of threads may call at once.
 //!
 //! ```
-//! use yultarvas::{decode, encode, encode_point, environment, parse_page, read_page, PAGE_COUNTS};
+//! use yultarvas::{decode, encode, encode_point, environment, parse_page, read_page, write_page};
+//! use yultarvas::{PAGE_COUNTS, PAGE_TEXT};
 //!
 //! fn main() -> Result<(), Box<dyn std::error::Error>> {
 //!     environment()?; // once, at start-up
@@ -28,6 +30,9 @@
 //!     let blocks = read_page(text, &mut counts)?;
 //!     println!("{:?}", &counts[..24 * blocks]);
 //!     assert_eq!(parse_page(text)?.words(), [1]);
+//!     let mut page = [0; PAGE_TEXT]; // places for any page
+//!     let length = write_page(128, blocks, &counts, &mut page)?; // a page of those counts
+//!     assert_eq!(parse_page(&page[..length])?.num(), 128);
 //!     Ok(())
 //! }
 //! ```
@@ -38,7 +43,7 @@ pub mod raw;
 mod refused;
 
 use core::hint::black_box;
-pub use refused::{Environment, Refused};
+pub use refused::{Environment, Refused, RefusedAt};
 
 /// Samples of a block, and coordinates of a point.
 pub const BLOCK: usize = 24;
@@ -46,6 +51,8 @@ pub const BLOCK: usize = 24;
 pub const PAGE_BLOCKS: usize = 64;
 /// The most counts that a page has.
 pub const PAGE_COUNTS: usize = PAGE_BLOCKS * BLOCK;
+/// The most bytes that a page's text has.
+pub const PAGE_TEXT: usize = 1189;
 
 /// Bytes of stack that a thread should have left for any one call: more than twice what was measured.
 pub const STACK: usize = 320 * 1024;
@@ -203,6 +210,31 @@ pub fn parse_page(text: &[u8]) -> Result<Page, Refused> {
         )
     };
     Refused::unless(number, p)
+}
+
+/// The text of the page of `num` and of `count` blocks, [`BLOCK`] whole samples each, into `text`, and its
+/// length: [`read_page`] and [`parse_page`] accept it, with the same num and the same words. Each block is
+/// coded by [`encode_at_scale`] at the scale num / 256 and the setting 8. Samples behind `24 * count` are not
+/// looked at. [`PAGE_TEXT`] places hold any page.
+///
+/// Refused with the first that fits of [`Refused::BadScale`] for a num that is 0 or above 65535,
+/// [`Refused::NoPage`] for more than [`PAGE_BLOCKS`] blocks, [`Refused::NoRoom`] for fewer samples than
+/// [`BLOCK`] a block, [`Refused::TooLarge`] for a sample beyond 32767 in magnitude in any block,
+/// [`Refused::FarQuotient`] likewise, [`Refused::NoRoom`] for the text; then `text` is as it was.
+pub fn write_page(num: u32, count: usize, samples: &[i32], text: &mut [u8]) -> Result<usize, RefusedAt> {
+    let mut length = 0;
+    let answer = unsafe {
+        raw::yultarvas_write_page(
+            num,
+            count,
+            samples.as_ptr(),
+            samples.len(),
+            text.as_mut_ptr(),
+            text.len(),
+            &mut length,
+        )
+    };
+    RefusedAt::unless(answer, length)
 }
 
 /// Whether sums of doubles come out on this thread as the contracts say: to be asked once at start-up, and

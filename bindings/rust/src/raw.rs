@@ -76,6 +76,17 @@ extern "C" {
         words_len: usize,
         count: *mut usize,
     ) -> u32;
+    /// The text of a page of whole samples. The answer has the number in its low 32 bits, and a block above
+    /// them.
+    pub fn yultarvas_write_page(
+        num: u32,
+        count: usize,
+        samples: *const i32,
+        samples_len: usize,
+        text: *mut u8,
+        text_len: usize,
+        length: *mut usize,
+    ) -> u64;
     /// Three sums of doubles, to be called with 1.0 and 2^-1074.
     pub fn yultarvas_environment(one: f64, least: f64) -> u32;
 }

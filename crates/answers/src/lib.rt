@@ -23,9 +23,9 @@ use score::Scales;
 use score::Scored;
 use tetra::Encoded;
 use text::put;
-use text::put_decimal;
 use text::put_double;
 use text::put_hex;
+use text::put_line;
 use text::put_list;
 ghost use mathlib.Core.Path.{_≡_};
 ghost use Prim.Native.Nat.{_≤_};
@@ -46,9 +46,7 @@ fn refused(number: u32) -> Reply
     ensures { λ r. ⌜ (r ≡ inLine (refusedText number)) × (r .length ≤ 336) ⌝ }
 {
     let mut bytes = [0u8; 336];
-    let a = put(&mut bytes, 0, b"refused=");
-    let b = put_decimal(&mut bytes, a, number as u64);
-    let length = put(&mut bytes, b, b"\n");
+    let length = put_line(&mut bytes, 0, b"refused=", number as u64);
     Reply { length, bytes }
 }
 

@@ -1,12 +1,12 @@
 -- Signs of coordinates and of counts. Assumes nothing.
-use mathlib.Core.Path.{_≡_, refl, sym, _∙_}
+use mathlib.Core.Path.{_≡_, sym, _∙_}
 use mathlib.Core.Bool.{true, false}
-use Prim.Native.Nat.{ℕ, zero, suc, _*_, _≤_}
+use Prim.Native.Nat.{ℕ, suc, _*_, _≤_}
 use native.Mathlib.Omega.{arith}
 use native.Mathlib.Nat.{mul-le-mul}
 use borrow.Author.Tests.{ltb-true}
 use lib.IntN.{ℤ, pos, negsuc, negℤ, _-ℤ_, natAbs, +ℤ-idl}
-use lib.Signed.{ltZ, mag}
+use lib.Signed.{ltZ}
 use mir.Syntax.{w32}
 use mir.Val.{SFits}
 use Rattle.page.specs.Counts.{nearest, countOf}
@@ -25,10 +25,6 @@ small-fits (negsuc n) h = record { sfits = omega arith }
 pub count-below : (num : ℕ) (y : ℤ) → ltZ y (pos 0) ≡ true → countOf num y ≡ pos 0 -ℤ pos (nearest (natAbs y * num) 256)
 count-below num (pos n) e = absurd (omega (arith, ltb-true n 0 e))
 count-below num (negsuc n) e = count-neg num n ∙ sym (+ℤ-idl (negℤ (pos (nearest (suc n * num) 256))))
-
-pub minus-mag : (n : ℕ) → mag (pos 0 -ℤ pos n) ≤ n
-minus-mag zero = omega arith
-minus-mag (suc n) = rw (+ℤ-idl (negsuc n)) (omega arith)
 
 -- not below zero
 pub count-above : (num : ℕ) (y : ℤ) → ltZ y (pos 0) ≡ false → countOf num y ≡ pos (nearest (natAbs y * num) 256)

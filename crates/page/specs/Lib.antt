@@ -2,8 +2,11 @@
 pub mod Page
 pub mod Counts
 pub mod Answer
+pub mod Form
 -- the reader as a definition, and the page rule: it accepts just the pages
 pub mod Reader
 pub mod PageRule
--- its proof
+-- what `form` answers, and that it is the inverse of `parse`
+pub mod FormRule
+-- their proofs
 pub mod Laws

@@ -79,28 +79,32 @@ one-reading text R S r s = sym (same R r) ∙ same S s
         go (page num words) e = absurd (r num words (only-pages text num words e))
         go malformed e = refl
 
--- one text has at most one num and one list of words. (One num with one list of words has one text, `pageText`, by definition)
+-- one text has at most one num and one list of words
 pub one-page : (text : List ℕ) (num x : ℕ) (words ws : List ℕ) → Page text num words → Page text x ws → (num ≡ x) × (words ≡ ws)
 one-page text num x words ws p q =
     let e = one-reading text (page num words) (page x ws) p q in
     (cc, cc)
 
+-- and one num with one list of words has one text
+pub one-text : (text other : List ℕ) (num : ℕ) (words : List ℕ) → Page text num words → Page other num words → text ≡ other
+one-text text other num words p q = p .text-is ∙ sym (q .text-is)
+
 -- ---- the longest page has 1,189 bytes
-pub longest : (text : List ℕ) (num : ℕ) (words : List ℕ) → Page text num words → length text ≤ 1189
+pub text-longest : (num : ℕ) (words : List ℕ) → num ≤ 65535 → length words ≤ 64 → length (pageText num words) ≤ 1189
 unfolding pageText formatLine numLine countLine
-longest text num words p =
+text-longest num words most few =
     let e : length (pageText num words) ≡ 18 + (5 + length (decimal num) + (7 + length (decimal (length words)) + length (wordLines words))) =
     simp length-append (omega arith) in
     omega (
       arith,
-      p .num-most,
-      p .count-most,
-      ap length (p .text-is),
       e,
       lines-length words,
-      decimal-fits 4 num (omega (arith, p .num-most)),
-      decimal-fits 1 (length words) (omega (arith, p .count-most)),
+      decimal-fits 4 num (omega arith),
+      decimal-fits 1 (length words) (omega arith),
     )
+
+pub longest : (text : List ℕ) (num : ℕ) (words : List ℕ) → Page text num words → length text ≤ 1189
+longest text num words p = omega (arith, ap length (p .text-is), text-longest num words (p .num-most) (p .count-most))
 
 -- so a text of 1,190 bytes or more is no page, and its first 1,190 bytes tell as much
 too-long : (text : List ℕ) → 1190 ≤ length text → readingOf text ≡ malformed

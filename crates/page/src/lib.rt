@@ -1,16 +1,20 @@
-// The trace page: a text of words in, counts out.
+// The trace page: a text of words in, counts out; and words in, their text out.
 mod count;
+mod forming;
 mod line;
 
 use refusal::NO_PAGE;
 use refusal::NO_ROOM;
+use refusal::NO_SCALE;
 use text::Line;
 use text::decimal_line;
+use text::put;
 ghost use mathlib.Core.Path.{_≡_};
 ghost use Prim.Native.Nat.{_≤_};
 ghost use lib.ListN.{length, replicate};
 ghost use Rattle.page.specs.Answer.{refusedBy, parsedOf, readOf, cellsOf};
 ghost use Rattle.page.specs.Reader.{wordsAt, readingOf};
+ghost use Rattle.page.specs.Form.{formedOf, formIn};
 
 // What a text says: number 0, num, how many words it has, and the words, with zeros behind them; or number 9 and zeros.
 pub struct Parsed {
@@ -24,6 +28,12 @@ pub struct Parsed {
 pub struct PageRead {
     pub number: u32,
     pub count: usize,
+}
+
+// What `form` answers: number 0 and the length of the text; or the number of the refusal and 0.
+pub struct Formed {
+    pub number: u32,
+    pub length: usize,
 }
 
 // No words yet.
@@ -111,4 +121,35 @@ pub fn read(text: &[u8], out: &mut [i32]) -> PageRead
     let words = page.words;
     count::put_blocks(out, words, count, page.num);
     PageRead { number: 0, count }
+}
+
+// Forms the text of the page of num and of the first `count` words, from the buffer's start on: the inverse
+// of `parse`. Of each word the low 48 bits are written, so none is refused. The text is made apart and then
+// put whole or not at all, so a refusal leaves the buffer as it was.
+pub fn form(num: u32, count: usize, words: [u64; 64], out: &mut [u8]) -> Formed
+    ensures { λ r. ⌜ r ≡ formedOf num count words (length (now (out .entry))) ⌝ }
+    ensures { λ r. ⌜ now (out .exit) ≡ formIn num count words (now (out .entry)) ⌝ }
+{
+    if !forming::is_num(num) {
+        return Formed {
+            number: NO_SCALE,
+            length: 0,
+        };
+    }
+    if 64 < count {
+        return Formed {
+            number: NO_PAGE,
+            length: 0,
+        };
+    }
+    let mut bytes = [0u8; 1189];
+    let length = forming::put_page(&mut bytes, num, count, words);
+    let end = put(out, 0, &bytes[..length]);
+    if out.len() < end {
+        return Formed {
+            number: NO_ROOM,
+            length: 0,
+        };
+    }
+    Formed { number: 0, length }
 }

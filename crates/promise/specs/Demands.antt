@@ -1,6 +1,6 @@
 -- THE DEMANDS, each said of what the public calls answer. Definitions only: src/lib.rt makes the calls and
 -- ensures what stands here, for every input. In order: words, points, samples, what samples give besides,
--- roots, pages. Where the definitions stand that this file and the contracts cite, below crates/:
+-- roots, pages, pages that are made. Where the definitions stand that this file and the contracts cite, below crates/:
 --   a lattice point, a point that has a word   `LatticePoint`, `HasWord`              tetra/specs/Lattice
 --   the point that a word's fields define      `pointOf`                              tetra/specs/Tetra
 --   the numbers 1 and 2 of samples             `sampleNumber`                         score/specs/Samples
@@ -19,36 +19,51 @@
 --   its counts                                 `pageCounts`                           page/specs/Counts
 --   what is printed, in an array               `blockTexts`, `inArray`                shown/specs/Shown
 --   and of a refusal                           `refusedText`                          text/specs/Text
+--   the text of a page                         `pageText`                             page/specs/Page
+--   a page's scale, num / 256                  `scaleOf`                              writer/specs/Writer
+--   block i of samples, as doubles             `blockAt`, `doublesOf`                 tetra/specs/Block, score/specs/Score
+--   a block that is refused with 2 or with 4   `Wide`, `Far`, `NoneBelow`             writer/specs/Writer
+--   a trace: its text, its num and its samples `Trace`                                trace/specs/Trace
+--   the lines of a refusal                     `refusedLines`                         made/specs/Made
 -- The structs of the answers (`Encoded`, `Code`, ..) stand in src/ of their crates.
 use mathlib.Core.Path.{_≡_}
 use mathlib.Core.Bool.{true, false}
-use mathlib.Core.Logic.{_≢_, _↔_}
-use mathlib.Core.List.{List, _++_}
+use mathlib.Core.Logic.{_≢_, _↔_, _⊎_}
+use mathlib.Core.List.{List, _++_, map}
 use Prim.Native.Nat.{ℕ, _+_, _*_, _-_, _%_, _^_, _<_, _≤_}
 use lib.Dec.{T}
 use lib.IntN.{ℤ}
 use lib.Ieee.{Float}
 use lib.Ieee.Scale.{finite}
-use lib.ListN.{length, drop, replicate}
+use lib.ListN.{length, getD, take, drop, replicate}
 use Rattle.tetra.specs.Lattice.{LatticePoint, HasWord}
 use Rattle.tetra.specs.Tetra.{pointOf}
+use Rattle.tetra.specs.Block.{blockAt}
 use Rattle.tetra.specs.declared.Encoded.{Encoded}
 use Rattle.float.specs.Value.{magUnits, isMinus, zero64}
 use Rattle.float.specs.Calls.{quotientsOf}
 use Rattle.float.specs.Distance.{sqDist, margin}
 use Rattle.root.specs.Root.{NearestRoot}
 use Rattle.root.specs.declared.Rooted.{Rooted}
+use Rattle.score.specs.Score.{doublesOf}
 use Rattle.score.specs.declared.Scored.{Scored}
 use Rattle.score.specs.declared.Scales.{Scales}
 use Rattle.encoder.specs.declared.Code.{Code}
-use Rattle.encoder.specs.Encode.{emptyCode}
+use Rattle.encoder.specs.Encode.{emptyCode, encodeAtScale}
 use Rattle.page.specs.declared.Parsed.{Parsed}
 use Rattle.page.specs.declared.PageRead.{PageRead}
+use Rattle.page.specs.declared.Formed.{Formed}
 use Rattle.shown.specs.declared.Printed.{Printed}
-use Rattle.page.specs.Page.{Page}
+use Rattle.page.specs.Page.{Page, pageText}
 use Rattle.page.specs.Counts.{pageCounts}
 use Rattle.text.specs.Text.{refusedText}
 use Rattle.shown.specs.Shown.{blockTexts, inArray}
+use Rattle.writer.specs.declared.Written.{Written}
+use Rattle.writer.specs.Writer.{scaleOf, wordsFor, writtenOf, Wide, Far, NoneBelow}
+use Rattle.demands.specs.Promised.{Coded}
+use Rattle.trace.specs.Trace.{Trace}
+use Rattle.made.specs.declared.Made.{Made}
+use Rattle.made.specs.Made.{refusedLines, inArray as Made·inArray}
 
 -- ---- WORDS (demand 2): `decode` of the word w answers y, `encode` of y answers e
 -- Every word decodes to the point that its fields define, and that is a lattice point that has a word.
@@ -179,3 +194,106 @@ PrintsPages text r = (num : ℕ) (words : List ℕ) → Page text num words
 -- and for every other text the line of the refusal alone.
 abbrev pub PrintsRefusal : List ℕ → Printed → Type 0
 PrintsRefusal text r = NoPage text → r ≡ inArray (refusedText 9)
+
+-- ---- PAGES THAT ARE FORMED (request 2026-01): `form` of num and the first `count` of 64 words answers r, and
+-- the buffer that held `old` then holds `new`
+-- a num of a page
+abbrev pub GoodNum : ℕ → Type 0
+GoodNum num = (1 ≤ num) × (num ≤ 65535)
+
+-- A good call answers number 0 and the length of the page's text, which stands at the buffer's start; the
+-- rest of the buffer stays.
+abbrev pub FormsPages : ℕ → ℕ → List ℕ → List ℕ → List ℕ → Formed → Type 0
+FormsPages num count words old new r = GoodNum num → count ≤ 64
+    → length (pageText num (take count words)) ≤ length old
+    → (r ≡ record { number = 0; length = length (pageText num (take count words)) })
+    × (new ≡ pageText num (take count words) ++ drop (length (pageText num (take count words))) old)
+
+-- What it wrote is the page of that num and of the low 48 bits of each word.
+abbrev pub FormsPage : ℕ → ℕ → List ℕ → List ℕ → Formed → Type 0
+FormsPage num count words new r = r .number ≡ 0
+    → Page (take (r .length) new) num (map (λ w. w % 2 ^ 48) (take count words))
+
+-- (demand 1) It refuses with 3 a num that no page has, then with 9 more than 64 words, then with 8 a buffer
+-- that is shorter than the text; length 0, and the buffer is untouched.
+pub record RefusesToForm (num count : ℕ) (words old new : List ℕ) (r : Formed) : Type 0 where
+  pub bad-num : (GoodNum num → ⊥) → (r ≡ record { number = 3; length = 0 }) × (new ≡ old)
+  pub many-words : GoodNum num → 64 < count → (r ≡ record { number = 9; length = 0 }) × (new ≡ old)
+  pub short-text : GoodNum num → count ≤ 64 → length old < length (pageText num (take count words))
+      → (r ≡ record { number = 8; length = 0 }) × (new ≡ old)
+
+-- ---- PAGES THAT ARE WRITTEN (request 2026-01): `write` of num, count and the samples x answers r, and the
+-- text that held `old` then holds `new`. Block i is the 24 samples from place 24 i on.
+-- its samples as doubles, and its code at the scale num / 256 and the setting 8
+abbrev pub blockOf : List ℤ → ℕ → List Float
+blockOf x i = doublesOf (blockAt x (24 * i))
+
+abbrev pub blockCode : ℕ → List ℤ → ℕ → Code
+blockCode num x i = encodeAtScale (blockOf x i) (scaleOf num) 8
+
+-- An accepted call writes a page from the text's start on, and the rest of the text stays. It is a page by
+-- document 01, so the reader accepts it: with that num, and with a word for each block, that of its code.
+pub record PageOfBlocks (num count : ℕ) (x : List ℤ) (old new : List ℕ) (r : Written) : Type 0 where
+  pub words : List ℕ
+  pub page : Page (take (r .length) new) num words
+  pub count-is : length words ≡ count
+  pub word-is : (i : ℕ) → i < count → getD words i 0 ≡ blockCode num x i .word
+  pub rest : new ≡ take (r .length) new ++ drop (r .length) old
+
+abbrev pub WritesPage : ℕ → ℕ → List ℤ → List ℕ → List ℕ → Written → Type 0
+WritesPage num count x old new r = r .number ≡ 0 → PageOfBlocks num count x old new r
+
+-- (demand 2) Each block of an accepted call has a code: its word decodes to its point, and the point encodes
+-- to the word.
+abbrev pub CodesBlocks : ℕ → ℕ → List ℤ → Written → Type 0
+CodesBlocks num count x r = r .number ≡ 0 → (i : ℕ) → i < count → Coded (blockCode num x i)
+
+-- (demand 3) Where a point that has a word is nearest to a block's rounded quotients by more than 2 ^ -20, it
+-- is the point of the block's code.
+abbrev pub WritesNearest : ℕ → ℕ → List ℤ → Written → Type 0
+WritesNearest num count x r = r .number ≡ 0 → (i : ℕ) → i < count
+    → (y : List ℤ) → HasWord y → NearestBy y (quotientsOf (blockOf x i) (scaleOf num)) → blockCode num x i .point ≡ y
+
+-- the text of the page of the blocks' words
+abbrev pub pageOf : ℕ → ℕ → List ℤ → List ℕ
+pageOf num count x = pageText num (wordsFor (scaleOf num) x count)
+
+-- (demand 1) A call is refused by number, block and length 0, and the text is untouched: with 3 for a bad
+-- num; then with 9 for more than 64 blocks; then with 8 for fewer than 24 samples a block; then with 2 for
+-- the lowest block that has a sample beyond 32767; then with 4 for the lowest block that is refused with 4
+-- at the scale; then with 8 for a text that is shorter than the page.
+abbrev pub RefusedBy : ℕ → ℕ → List ℕ → List ℕ → Written → Type 0
+RefusedBy number block old new r = (r ≡ record { number = number; block = block; length = 0 }) × (new ≡ old)
+
+pub record RefusesToWrite (num count : ℕ) (x : List ℤ) (old new : List ℕ) (r : Written) : Type 0 where
+  pub bad-num : (num ≡ 0) ⊎ (65535 < num) → RefusedBy 3 0 old new r
+  pub many-blocks : GoodNum num → 64 < count → RefusedBy 9 0 old new r
+  pub few-samples : GoodNum num → count ≤ 64 → length x < 24 * count → RefusedBy 8 0 old new r
+  pub wide : GoodNum num → count ≤ 64 → 24 * count ≤ length x
+      → (b : ℕ) → b < count → Wide x b → NoneBelow b (Wide x) → RefusedBy 2 b old new r
+  pub far : GoodNum num → count ≤ 64 → 24 * count ≤ length x → NoneBelow count (Wide x)
+      → (b : ℕ) → b < count → Far num x b → NoneBelow b (Far num x) → RefusedBy 4 b old new r
+  pub short-text : GoodNum num → count ≤ 64 → 24 * count ≤ length x → NoneBelow count (Wide x)
+      → NoneBelow count (Far num x) → length old < length (pageOf num count x) → RefusedBy 8 0 old new r
+
+-- Every other call is accepted.
+abbrev pub WritesOthers : ℕ → ℕ → List ℤ → List ℕ → Written → Type 0
+WritesOthers num count x old r = GoodNum num → count ≤ 64 → 24 * count ≤ length x → NoneBelow count (Wide x)
+    → NoneBelow count (Far num x) → length (pageOf num count x) ≤ length old → r .number ≡ 0
+
+-- ---- PAGES OF TRACES (request 2026-01): `mkpage` of a text prints r
+-- the text is no trace, of any num and samples
+abbrev pub NoTrace : List ℕ → Type 0
+NoTrace text = (num count : ℕ) (x : List ℤ) → Trace text num count x → ⊥
+
+-- It prints for a trace the page of its num and samples, where `write` accepts them and has room for any page,
+-- and else the lines of the refusal, with the block of a 2 and of a 4;
+abbrev pub MakesPages : List ℕ → Made → Type 0
+MakesPages text r = (num count : ℕ) (x : List ℤ) → Trace text num count x
+    → (writtenOf num count x 1189 .number ≡ 0 → r ≡ Made·inArray (pageOf num count x))
+    × (writtenOf num count x 1189 .number ≢ 0
+    → r ≡ Made·inArray (refusedLines (writtenOf num count x 1189 .number) (writtenOf num count x 1189 .block)))
+
+-- and for every other text the line of the refusal 9 alone.
+abbrev pub MakesNoOther : List ℕ → Made → Type 0
+MakesNoOther text r = NoTrace text → r ≡ Made·inArray (refusedText 9)

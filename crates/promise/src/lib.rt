@@ -14,8 +14,13 @@ ghost use Rattle.promise.specs.Demands.{RefusesOthers, AcceptsMembers, K
 ghost use Rattle.promise.specs.Demands.{Numbered, KeepsCode, ReturnsNearest, Scores, Scaled};
 ghost use Rattle.promise.specs.Demands.{RootIsNearest, RootOfZero, RootRefused};
 ghost use Rattle.promise.specs.Demands.{ParsesPages, ParsesNoOther, PrintsPages, PrintsRefusal};
+ghost use Rattle.promise.specs.Demands.{FormsPages, FormsPage, RefusesToForm};
+ghost use Rattle.promise.specs.Demands.{WritesPage, CodesBlocks, WritesNearest, RefusesToWrite, WritesOthers};
+ghost use Rattle.promise.specs.Demands.{MakesPages, MakesNoOther};
 ghost use Rattle.promise.specs.Demands.{ReadsPages, RefusesNoPage, RefusesShort, AcceptsPagesOnly};
 use encoder::Code;
+use made::Made;
+use page::Formed;
 use page::PageRead;
 use page::Parsed;
 use root::Rooted;
@@ -23,6 +28,7 @@ use score::Scales;
 use score::Scored;
 use shown::Printed;
 use tetra::Encoded;
+use writer::Written;
 
 // A word's point, and what the point encodes to.
 pub struct FromWord {
@@ -162,4 +168,32 @@ pub fn printed_page(text: &[u8]) -> Printed
     ensures { λ r. ⌜ PrintsRefusal (now (text .entry)) r ⌝ }
 {
     shown::unpage(text)
+}
+
+// `form`, the inverse of `parse`.
+pub fn formed_page(num: u32, count: usize, words: [u64; 64], out: &mut [u8]) -> Formed
+    ensures { λ r. ⌜ FormsPages num count words (now (out .entry)) (now (out .exit)) r ⌝ }
+    ensures { λ r. ⌜ FormsPage num count words (now (out .exit)) r ⌝ }
+    ensures { λ r. ⌜ RefusesToForm num count words (now (out .entry)) (now (out .exit)) r ⌝ }
+{
+    page::form(num, count, words, out)
+}
+
+// `write`: whole samples to the text of their page.
+pub fn written_page(num: u32, count: usize, samples: &[i32], text: &mut [u8]) -> Written
+    ensures { λ r. ⌜ WritesPage num count (now (samples .entry)) (now (text .entry)) (now (text .exit)) r ⌝ }
+    ensures { λ r. ⌜ CodesBlocks num count (now (samples .entry)) r ⌝ }
+    ensures { λ r. ⌜ WritesNearest num count (now (samples .entry)) r ⌝ }
+    ensures { λ r. ⌜ RefusesToWrite num count (now (samples .entry)) (now (text .entry)) (now (text .exit)) r ⌝ }
+    ensures { λ r. ⌜ WritesOthers num count (now (samples .entry)) (now (text .entry)) r ⌝ }
+{
+    writer::write(num, count, samples, text)
+}
+
+// `mkpage`: a trace to its page, as text.
+pub fn made_page(text: &[u8]) -> Made
+    ensures { λ r. ⌜ MakesPages (now (text .entry)) r ⌝ }
+    ensures { λ r. ⌜ MakesNoOther (now (text .entry)) r ⌝ }
+{
+    made::mkpage(text)
 }

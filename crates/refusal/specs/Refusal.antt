@@ -1,4 +1,4 @@
--- The numbers by which a call refuses bad input: document 01, "Numbers that answer a bad call". A call that is accepted carries 0.
+-- The numbers by which a call refuses bad input: document 01, "Numbers that answer a bad call", with what request 2026-01 adds to 2, 3 and 9. A call that is accepted carries 0.
 -- Assumes nothing.
 use mathlib.Core.Path.{_≡_, refl}
 use mathlib.Core.List.{List, [], _∷_}
@@ -8,11 +8,11 @@ use Prim.Native.Nat.{ℕ}
 abbrev pub notFinite : ℕ
 notFinite = 1
 
--- a sample's magnitude exceeds 1e290
+-- a sample's magnitude exceeds 1e290; one of a page that is written, 32767
 abbrev pub tooLarge : ℕ
 tooLarge = 2
 
--- the scale is not a finite number above 0
+-- the scale is not a finite number above 0; a page's num is not from 1 to 65535
 abbrev pub noScale : ℕ
 noScale = 3
 
@@ -36,7 +36,7 @@ outOfRange = 7
 abbrev pub noRoom : ℕ
 noRoom = 8
 
--- a text is no page
+-- a text is no page or no trace; there are too many blocks for a page
 abbrev pub noPage : ℕ
 noPage = 9
 

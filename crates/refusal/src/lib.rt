@@ -6,10 +6,10 @@ ghost use Rattle.refusal.specs.Refusal.{numbers};
 // A sample is a NaN or infinite.
 pub const NOT_FINITE: u32 = 1;
 
-// A sample's magnitude exceeds 1e290.
+// A sample's magnitude exceeds 1e290; one of a page that is written, 32767.
 pub const TOO_LARGE: u32 = 2;
 
-// The scale is not a finite number above 0.
+// The scale is not a finite number above 0; a page's num is not from 1 to 65535.
 pub const NO_SCALE: u32 = 3;
 
 // A quotient of a sample by the scale exceeds 1e6 in magnitude.
@@ -27,7 +27,7 @@ pub const OUT_OF_RANGE: u32 = 7;
 // A lent buffer is too short.
 pub const NO_ROOM: u32 = 8;
 
-// A text is no page.
+// A text is no page or no trace; there are too many blocks for a page.
 pub const NO_PAGE: u32 = 9;
 
 // All of them, from 1 on. The contract holds these constants to the definitions, so that neither can be changed alone.

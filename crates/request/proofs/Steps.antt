@@ -1,22 +1,18 @@
 -- What the definition of a number hands on from one byte of a line to the next, and that of a row from one word to the next. Assumes nothing.
-use mathlib.Core.Path.{_≡_, ap, sym, _∙_}
+use mathlib.Core.Path.{_≡_}
 use mathlib.Core.Bool.{true, cond}
 use mathlib.Core.List.{List, [], _∷_, _++_}
-use Prim.Native.Nat.{ℕ, zero, suc, _+_, _-_, _<_, _≤_}
+use Prim.Native.Nat.{ℕ, suc, _+_, _-_, _<_, _≤_}
 use native.Mathlib.Omega.{arith}
 use lib.Dec.{eqb}
-use native.Mathlib.Numerals.{add-one}
 use lib.Ieee.{Float}
-use lib.IntN.{ℤ, pos, negsuc, _-ℤ_, +ℤ-idl}
-use lib.Signed.{mag}
-use lib.ListN.{length, getD, set, take, drop, drop-of-length-le}
-use lib.Seq.{take-all, take-suc-set}
+use lib.IntN.{ℤ}
+use lib.ListN.{length, getD, take, drop, drop-of-length-le}
+use lib.Seq.{take-all}
 use Rattle.laws.specs.Laws.Lists.{drop-next}
 use Rattle.text.specs.Lines.{onDigit}
 use Rattle.request.specs.declared.Number.the-variants.{Bad}
 use Rattle.request.specs.Words.{moreOf, countedOf, numberFrom, doubleAfter, signedAfter}
-use Rattle.request.specs.declared.Samples.{Samples}
-use Rattle.request.specs.declared.Point.{Point}
 use Rattle.request.specs.Rows.{onDouble, onSigned, noSamples, samplesFrom, noPoint, coordinatesFrom}
 
 pub number-step : (base most i v j : ℕ) (s : List ℕ) → i < length s
@@ -30,15 +26,7 @@ pub number-end : (base most i v j : ℕ) (s : List ℕ) → length s ≤ i → n
 unfolding numberFrom
 number-end base most i v j s h = rw (drop-of-length-le s h)
 
-pub minus-mag : (n : ℕ) → mag (pos 0 -ℤ pos n) ≤ n
-minus-mag zero = omega arith
-minus-mag (suc n) = rw (+ℤ-idl (negsuc n)) (omega arith)
-
 -- ---- rows of 24, of which k words were read
--- one word more stands behind them in the array
-pub row-more : (A : Type 0) (xs : List A) (k : ℕ) (v : A) → k < length xs → take k xs ++ (v ∷ []) ≡ take (k + 1) (set xs k v)
-row-more A xs k v h = rw (add-one k) (sym (take-suc-set xs k v h))
-
 pub samples-step : (s : List ℕ) (k : ℕ) (xs : List Float) (at : ℕ) → k < 24
     → samplesFrom s (24 - k) xs at
     ≡ onDouble (doubleAfter s at) noSamples (λ v m. samplesFrom s (24 - (k + 1)) (xs ++ (v ∷ [])) m)

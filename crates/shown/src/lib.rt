@@ -1,14 +1,13 @@
 // What the program unpage prints of a text: two lines for each block of a page, or the line of a refusal.
 use page::read;
 use text::put;
-use text::put_decimal;
+use text::put_line;
 use text::put_list;
 ghost use mathlib.Core.Path.{_≡_};
 ghost use Prim.Native.Nat.{_+_, _*_, _≤_};
 ghost use lib.ListN.{length, take, drop};
 ghost use lib.Seq.{sets};
 ghost use Rattle.page.specs.Reader.{readingOf};
-ghost use Rattle.text.specs.Text.{refusedText};
 ghost use Rattle.shown.specs.Shown.{blockText, blockTexts, printed, inArray};
 
 // A text of at most 20,672 bytes, 323 for each of 64 blocks: how many there are, and the bytes, with zeros
@@ -25,11 +24,10 @@ fn put_lines(out: &mut [u8], at: usize, index: usize, counts: [i32; 24]) -> usiz
     ensures { λ r. ⌜ (r ≡ at + length (blockText index counts)) × (r ≤ at + 323) ×
         (now (out .exit) ≡ sets (now (out .entry)) at (blockText index counts)) ⌝ }
 {
-    let a = put(out, at, b"block=");
-    let b = put_decimal(out, a, index as u64);
-    let c = put(out, b, b"\ncounts=");
-    let d = put_list(out, c, counts);
-    put(out, d, b"\n")
+    let a = put_line(out, at, b"block=", index as u64);
+    let b = put(out, a, b"counts=");
+    let c = put_list(out, b, counts);
+    put(out, c, b"\n")
 }
 
 // The 24 counts from `at` on.
@@ -56,17 +54,6 @@ fn put_all(out: &mut [u8], counts: &[i32], count: usize) -> usize
     at
 }
 
-// The line of a refusal, from the start on.
-fn put_refused(out: &mut [u8], number: u32) -> usize
-    requires { ⌜ 323 ≤ length (now out) ⌝ }
-    ensures { λ r. ⌜ (r ≡ length (refusedText number)) × (r ≤ 323) ×
-        (now (out .exit) ≡ sets (now (out .entry)) 0 (refusedText number)) ⌝ }
-{
-    let a = put(out, 0, b"refused=");
-    let b = put_decimal(out, a, number as u64);
-    put(out, b, b"\n")
-}
-
 // What the program prints for an input. Its buffer has room for every page.
 pub fn unpage(text: &[u8]) -> Printed
     ensures { λ r. ⌜ (r ≡ inArray (printed (readingOf (now (text .entry))))) × (r .length ≤ 20672) ⌝ }
@@ -76,7 +63,7 @@ pub fn unpage(text: &[u8]) -> Printed
     let mut bytes = [0u8; 20672];
     let number = answer.number;
     if number != 0 {
-        let length = put_refused(&mut bytes, number);
+        let length = put_line(&mut bytes, 0, b"refused=", number as u64);
         return Printed { length, bytes };
     }
     let length = put_all(&mut bytes, &counts, answer.count);

@@ -40,18 +40,22 @@ hexAt (suc k) s = onDigit (hexAt k s) Other (λ v. onDigit (digitAt (getD s k 0)
 abbrev pub rowAt : ℕ → List ℕ → Digit
 rowAt k s = cond (ltb 16 k) Other (hexAt k s)
 
--- the digits up to LF, where j digits have been read, and make v. No digit follows a leading zero
-unfoldable pub decimalAt : ℕ → ℕ → ℕ → List ℕ → Line
-decimalAt most v j [] = Bad
-decimalAt most v j (b ∷ s) =
-    cond (eqb b 10) (cond (eqb j 0) Bad (Good v (j + 1)))
+-- the digits up to the byte `end`, where j digits have been read, and make v. No digit follows a leading zero
+unfoldable pub decimalAt : ℕ → ℕ → ℕ → ℕ → List ℕ → Line
+decimalAt end most v j [] = Bad
+decimalAt end most v j (b ∷ s) =
+    cond (eqb b end) (cond (eqb j 0) Bad (Good v (j + 1)))
     (cond (ltb b 48) Bad
     (cond (ltb 57 b) Bad
     (cond (ltb most (v * 10 + (b - 48))) Bad
-    (cond (ltb 0 j && eqb v 0) Bad (decimalAt most (v * 10 + (b - 48)) (j + 1) s)))))
+    (cond (ltb 0 j && eqb v 0) Bad (decimalAt end most (v * 10 + (b - 48)) (j + 1) s)))))
 
--- ---- a line of a key and a decimal number: its value and how many bytes it takes, its LF included
-unfoldable pub decimalLineAt : List ℕ → ℕ → ℕ → List ℕ → Line
-decimalLineAt key least most s =
+-- a key and a decimal number: its value and how many bytes both take, the end included
+abbrev pub keyedAt : ℕ → List ℕ → ℕ → ℕ → List ℕ → Line
+keyedAt end key least most s =
     cond (begins s key)
-    (onLine (decimalAt most 0 0 (drop (length key) s)) Bad (λ v n. cond (ltb v least) Bad (Good v (length key + n)))) Bad
+    (onLine (decimalAt end most 0 0 (drop (length key) s)) Bad (λ v n. cond (ltb v least) Bad (Good v (length key + n)))) Bad
+
+-- ---- a line of a key and a decimal number: one that ends in LF
+unfoldable pub decimalLineAt : List ℕ → ℕ → ℕ → List ℕ → Line
+decimalLineAt key least most s = keyedAt 10 key least most s

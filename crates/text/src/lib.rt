@@ -6,6 +6,7 @@
 // or not at all.
 mod double;
 mod line;
+mod list;
 mod number;
 mod piece;
 mod write;
@@ -19,9 +20,12 @@ pub use line::decimal_line;
 pub use line::digit_of;
 pub use line::hex;
 pub use line::starts;
+pub use list::ListLine;
+pub use list::list_line;
 pub use number::magnitude;
 pub use piece::put;
 pub use piece::put_decimal;
 pub use piece::put_hex;
+pub use piece::put_line;
 pub use piece::put_list;
 pub use piece::put_signed;

@@ -3,7 +3,7 @@
 ghost use mathlib.Core.Path.{_≡_};
 ghost use Prim.Native.Nat.{_≤_};
 ghost use lib.ListN.{getD};
-ghost use Rattle.text.specs.Lines.{begins, digitAt, hexAt, rowAt, decimalAt, decimalLineAt};
+ghost use Rattle.text.specs.Lines.{begins, digitAt, hexAt, rowAt, decimalAt, keyedAt, decimalLineAt};
 
 // A line's answer: its value and how many bytes it takes, its end included; or no such line.
 pub enum Line {
@@ -91,15 +91,16 @@ pub fn hex(s: &[u8], k: usize) -> Digit
     row(s, k)
 }
 
-// A decimal number of at most `most` and the line's end.
-fn decimal(s: &[u8], most: u16) -> Line
-    ensures { λ r. ⌜ r ≡ decimalAt most 0 0 (now (s .entry)) ⌝ }
+// A decimal number of at most `most` and the byte `end` behind it. The bound is a u32, so that no number read
+// on the way wraps.
+pub(crate) fn decimal(s: &[u8], end: u8, most: u32) -> Line
+    ensures { λ r. ⌜ r ≡ decimalAt end most 0 0 (now (s .entry)) ⌝ }
 {
     let mut v: u64 = 0;
     let mut j: usize = 0;
     while j < s.len() {
         let b = s[j];
-        if b == b'\n' {
+        if b == end {
             if j == 0 {
                 return Line::Bad;
             }
@@ -124,20 +125,26 @@ fn decimal(s: &[u8], most: u16) -> Line
     Line::Bad
 }
 
-// A line of the key and a decimal number from `least` to `most`. The bound is a u16, so that no number read
-// on the way wraps.
-pub fn decimal_line(s: &[u8], key: &[u8], least: u16, most: u16) -> Line
-    ensures { λ r. ⌜ r ≡ decimalLineAt (now (key .entry)) least most (now (s .entry)) ⌝ }
+// The key and a decimal number from `least` to `most`, with the byte `end` behind it.
+pub(crate) fn keyed(s: &[u8], key: &[u8], end: u8, least: u32, most: u32) -> Line
+    ensures { λ r. ⌜ r ≡ keyedAt end (now (key .entry)) least most (now (s .entry)) ⌝ }
 {
     if !starts(s, key) {
         return Line::Bad;
     }
     let k = key.len();
-    let Line::Good(v, n) = decimal(&s[k..], most) else {
+    let Line::Good(v, n) = decimal(&s[k..], end, most) else {
         return Line::Bad;
     };
     if v < (least as u64) {
         return Line::Bad;
     }
     Line::Good(v, k + n)
+}
+
+// A line of the key and a decimal number from `least` to `most`.
+pub fn decimal_line(s: &[u8], key: &[u8], least: u32, most: u32) -> Line
+    ensures { λ r. ⌜ r ≡ decimalLineAt (now (key .entry)) least most (now (s .entry)) ⌝ }
+{
+    keyed(s, key, b'\n', least, most)
 }

@@ -10,7 +10,7 @@ ghost use mathlib.Core.Path.{_≡_};
 ghost use Prim.Native.Nat.{_+_, _≤_};
 ghost use lib.Dec.{leb};
 ghost use lib.ListN.{length};
-ghost use Rattle.text.specs.Text.{decimal, hex, signed as Text·signed, listed};
+ghost use Rattle.text.specs.Text.{line, decimal, hex, signed as Text·signed, listed};
 ghost use Rattle.text.specs.Placed.{placed, placeBehind};
 
 // Whether n bytes from `at` on stand within `size`.
@@ -69,6 +69,22 @@ pub fn put_hex(out: &mut [u8], at: usize, n: u64, k: usize) -> usize
         return size + 1;
     }
     hex_digits(out, at, n, k)
+}
+
+// A line: a key, a number in decimal, LF.
+pub fn put_line(out: &mut [u8], at: usize, key: &[u8], n: u64) -> usize
+    ensures { λ r. ⌜ r ≡ placeBehind (now (out .entry)) at (line (now (key .entry)) (decimal n)) ⌝ }
+    ensures { λ r. ⌜ now (out .exit) ≡ placed (now (out .entry)) at (line (now (key .entry)) (decimal n)) ⌝ }
+{
+    let mut value = [0u8; 21];
+    let d = digits(&mut value, 0, n);
+    let k = copy(&mut value, d, b"\n");
+    let size = out.len();
+    if !has_room(size, at, key.len() + k) {
+        return size + 1;
+    }
+    let behind = copy(out, at, key);
+    copy(out, behind, &value[..k])
 }
 
 // The 24 numbers of a block, signed, with commas between them: at most 288 bytes.

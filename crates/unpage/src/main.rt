@@ -3,39 +3,8 @@
 // A program of this language has no exit status. So a read or a write that fails is said on standard error:
 // after a read nothing is printed, after a write nothing more is.
 use libc::STDERR_FILENO;
-use libc::STDIN_FILENO;
 use libc::STDOUT_FILENO;
 ghost use Prim.Native.Nat.{_≤_};
-ghost use Rattle.io.specs.Counts.{Counts};
-
-// How many bytes were read, and whether each read went well.
-struct Input {
-    good: bool,
-    length: usize,
-}
-
-// Reads until text is full or the input ends. `io::read_full` would do so too, and take a read that fails for
-// the end.
-fn read_all(text: &mut [u8]) -> Input
-    ensures { λ r. ⌜ Counts (r .length) (now (text .exit)) ⌝ }
-{
-    let mut n = 0;
-    while n < text.len() {
-        let got = libc::read(STDIN_FILENO, &mut text[n..]);
-        let more = io::count(got, &text[n..]);
-        if more == 0 {
-            return Input {
-                good: got == 0,
-                length: n,
-            };
-        }
-        n += more;
-    }
-    Input {
-        good: true,
-        length: n,
-    }
-}
 
 // Writes the answer in one call, and says whether all of it was written.
 fn print(printed: shown::Printed) -> bool
@@ -54,9 +23,9 @@ fn complain(what: &[u8]) {
 // of crate page). Nothing is printed before the whole page is read.
 fn main() {
     let mut text = [0u8; 1190];
-    let input = read_all(&mut text);
-    let n = input.length;
-    if !input.good {
+    let read = input::read_all(&mut text);
+    let n = read.length;
+    if !read.good {
         complain(b"unpage: standard input cannot be read\n");
         return;
     }

@@ -1,7 +1,7 @@
 -- What the exported calls answer, and what they leave in the memory that is lent to them. Definitions only.
 use mathlib.Core.Bool.{Bool, cond, _||_}
 use mathlib.Core.List.{List, _++_}
-use Prim.Native.Nat.{ℕ}
+use Prim.Native.Nat.{ℕ, _+_, _*_, _^_}
 use lib.Dec.{eqb, ltb}
 use lib.IntN.{ℤ}
 use lib.Ieee.{Float}
@@ -17,6 +17,8 @@ use Rattle.score.specs.declared.Scored.{Scored}
 use Rattle.score.specs.Scale.{scales}
 use Rattle.score.specs.Score.{scored}
 use Rattle.encoder.specs.declared.Code.{Code}
+use Rattle.writer.specs.declared.Written.{Written}
+use Rattle.writer.specs.Writer.{writtenOf}
 use Rattle.encoder.specs.Encode.{encodeAtScale, encodeWith, encodeSamples}
 
 -- ---- for all calls
@@ -103,3 +105,11 @@ wordsNumber R old = cond (eqb (numberIn R) 0) (cond (ltb (length old) (length (w
 -- the words at the slice's start, and what stands behind them as it was
 abbrev pub wordsOver : Reading → List ℕ → List ℕ
 wordsOver R old = wordsIn R ++ drop (length (wordsIn R)) old
+
+-- ---- whole samples to the text of their page, into a slice that held `old`
+abbrev pub writtenPage : ℕ → ℕ → List ℤ → List ℕ → Written
+writtenPage num count samples old = writtenOf num count samples (length old)
+
+-- the number in the low 32 bits, and the block above them
+abbrev pub withBlock : Written → ℕ
+withBlock w = w .number + 2 ^ 32 * w .block

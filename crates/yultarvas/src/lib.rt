@@ -1,7 +1,8 @@
 // The calls for programs in other languages: include/yultarvas.h declares them for C, bindings/rust for Rust.
 // A slice is a pointer and a length, in this order; a cell is a pointer. Each call answers a number: 0, or
 // that of the refusal, and then nothing that was lent is written. A block stands at a slice's start. 8 says
-// that a slice is too short for it, and stands before all other numbers; of a page after 9.
+// that a slice is too short for it, and stands before all other numbers; of a page after 9. The call that
+// writes a page answers a block beside the number.
 mod environment;
 mod slices;
 
@@ -14,6 +15,8 @@ ghost use Rattle.yultarvas.specs.Calls.{left, decodeNumber, decodePoint,
 ghost use Rattle.yultarvas.specs.Calls.{atScale, atSetting, atOwnScale, codeNumber, leftPoint};
 ghost use Rattle.yultarvas.specs.Calls.{scalesFor, scalesNumber, scoreFor, scoreNumber};
 ghost use Rattle.yultarvas.specs.Calls.{pageNumber, pageBlocks, pageCells, wordsNumber, wordsOver};
+ghost use Rattle.yultarvas.specs.Calls.{writtenPage, withBlock};
+ghost use Rattle.writer.specs.Writer.{textAfter};
 ghost use Rattle.yultarvas.specs.Environment.{environmentOf};
 
 // ---- words and points
@@ -214,6 +217,31 @@ pub extern "C" fn yultarvas_parse_page(
     slices::put_words(found, n, words);
     *num = parsed.num;
     *count = n;
+    0
+}
+
+// The text of the page of num and of `count` blocks, 24 whole samples each, from the start of `text` on, and its length. Refused with 3, 9,
+// 8 for the samples, 2, 4, 8 for the text. The answer has the number in its low 32 bits; above them stands the lowest block that has a 2 or a
+// 4, and else 0. So a refusal tells its block, and no cell that is lent is written for it.
+#[no_mangle]
+pub extern "C" fn yultarvas_write_page(
+    num: u32,
+    count: usize,
+    samples: &[i32],
+    text: &mut [u8],
+    length: &mut usize,
+) -> u64
+    ensures { λ r. ⌜ r ≡ withBlock (writtenPage num count (now (samples .entry)) (now (text .entry))) ⌝ }
+    ensures { λ r. ⌜ now (text .exit) ≡ textAfter num count (now (samples .entry)) (now (text .entry)) ⌝ }
+    ensures { λ r. ⌜ now (length .exit) ≡ left (writtenPage num count (now (samples .entry)) (now (text .entry)) .number)
+        (writtenPage num count (now (samples .entry)) (now (text .entry)) .length) (now (length .entry)) ⌝ }
+{
+    let w = writer::write(num, count, samples, text);
+    let number = w.number;
+    if number != 0 {
+        return (number as u64) + 4294967296 * (w.block as u64);
+    }
+    *length = w.length;
     0
 }
 

@@ -5,8 +5,9 @@ use mathlib.Core.List.{append-assoc}
 use lib.Dec.{lit≤}
 use Rattle.text.specs.Text.{bytes, hex, listed}
 use Rattle.text.specs.Doubles.{bitsShown}
+use Rattle.text.specs.Laws.Placed.{grown-more, grown-text, grown-hex}
 use Rattle.answers.specs.Answers.{codeLine}
-use Rattle.answers.proofs.Pieces.{line-none, line-text, line-hex, line-more, line-all}
+use Rattle.answers.proofs.Pieces.{line-none, line-all}
 use Rattle.answers.proofs.code_line.Statement.{statement}
 use Rattle.answers.proofs.code_line.Tie as tie
 
@@ -85,13 +86,13 @@ returns-2 c =
     let a = s .before .before .args .c in
     let b = bitsShown (a .score) in
     let y = p6 .put-list .ensures in
-    let l1 = line-text line-none (bytes "word=") (lit≤ tt) (p1 .put .ensures .0) (p1 .put .ensures .1) in
-    let l2 = line-hex l1 12 (a .word) (lit≤ tt) (p2 .put-hex .ensures .0) (p2 .put-hex .ensures .1) in
-    let l3 = line-text l2 (bytes " score=") (lit≤ tt) (p3 .put2 .ensures .0) (p3 .put2 .ensures .1) in
-    let l4 = line-hex l3 16 b (lit≤ tt) (p4 .put-double .ensures .0) (p4 .put-double .ensures .1) in
-    let l5 = line-text l4 (bytes " point=") (lit≤ tt) (p5 .put3 .ensures .0) (p5 .put3 .ensures .1) in
-    let l6 = line-more l5 (listed (a .point)) 288 (y .1 .1) (lit≤ tt) (y .0) (y .1 .0) in
-    let l7 = line-text l6 (bytes "\n") (lit≤ tt) (p7 .put4 .ensures .0) (p7 .put4 .ensures .1) in
+    let l1 = grown-text line-none (bytes "word=") (lit≤ tt) (p1 .put .ensures .0) (p1 .put .ensures .1) in
+    let l2 = grown-hex l1 12 (a .word) (lit≤ tt) (p2 .put-hex .ensures .0) (p2 .put-hex .ensures .1) in
+    let l3 = grown-text l2 (bytes " score=") (lit≤ tt) (p3 .put2 .ensures .0) (p3 .put2 .ensures .1) in
+    let l4 = grown-hex l3 16 b (lit≤ tt) (p4 .put-double .ensures .0) (p4 .put-double .ensures .1) in
+    let l5 = grown-text l4 (bytes " point=") (lit≤ tt) (p5 .put3 .ensures .0) (p5 .put3 .ensures .1) in
+    let l6 = grown-more l5 (listed (a .point)) 288 (y .1 .1) (lit≤ tt) (y .0) (y .1 .0) in
+    let l7 = grown-text l6 (bytes "\n") (lit≤ tt) (p7 .put4 .ensures .0) (p7 .put4 .ensures .1) in
     rw (eq-eqb _ _ (s .if1 .left)) (line-all l7 _ (simp append-assoc) (lit≤ tt))
 
 pub code-line-spec : {M : Type 1} → statement M

@@ -3,8 +3,9 @@ use borrow.Author.Needs.{needs}
 use mathlib.Core.List.{append-assoc}
 use lib.Dec.{lit≤}
 use Rattle.text.specs.Text.{bytes, listed}
+use Rattle.text.specs.Laws.Placed.{grown-more, grown-text}
 use Rattle.answers.specs.Answers.{pointLine}
-use Rattle.answers.proofs.Pieces.{line-none, line-text, line-more, line-all}
+use Rattle.answers.proofs.Pieces.{line-none, line-all}
 use Rattle.answers.proofs.point_line.Statement.{statement}
 use Rattle.answers.proofs.point_line.Tie as tie
 
@@ -40,9 +41,9 @@ returns c =
     let k = d .before .before .before in
     let y = k .before .before .before .args .y in
     let p = d .put-list .ensures in
-    let l1 = line-text line-none (bytes "point=") (lit≤ tt) (k .put .ensures .0) (k .put .ensures .1) in
-    let l2 = line-more l1 (listed y) 288 (p .1 .1) (lit≤ tt) (p .0) (p .1 .0) in
-    let l3 = line-text l2 (bytes "\n") (lit≤ tt) (e .put2 .ensures .0) (e .put2 .ensures .1) in
+    let l1 = grown-text line-none (bytes "point=") (lit≤ tt) (k .put .ensures .0) (k .put .ensures .1) in
+    let l2 = grown-more l1 (listed y) 288 (p .1 .1) (lit≤ tt) (p .0) (p .1 .0) in
+    let l3 = grown-text l2 (bytes "\n") (lit≤ tt) (e .put2 .ensures .0) (e .put2 .ensures .1) in
     line-all l3 (pointLine y) (simp append-assoc) (lit≤ tt)
 
 pub point-line-spec : {M : Type 1} → statement M

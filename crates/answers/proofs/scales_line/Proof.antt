@@ -5,8 +5,9 @@ use mathlib.Core.List.{append-assoc}
 use lib.Dec.{lit≤}
 use Rattle.text.specs.Text.{bytes, hex}
 use Rattle.text.specs.Doubles.{bitsShown}
+use Rattle.text.specs.Laws.Placed.{grown-text, grown-hex}
 use Rattle.answers.specs.Answers.{scalesLine}
-use Rattle.answers.proofs.Pieces.{line-none, line-text, line-hex, line-all}
+use Rattle.answers.proofs.Pieces.{line-none, line-all}
 use Rattle.answers.proofs.scales_line.Statement.{statement}
 use Rattle.answers.proofs.scales_line.Tie as tie
 
@@ -68,11 +69,11 @@ returns-2 c =
     let a = s .before .before .args .l in
     let m = bitsShown (a .largest) in
     let n = bitsShown (a .scale) in
-    let l1 = line-text line-none (bytes "max=") (lit≤ tt) (p1 .put .ensures .0) (p1 .put .ensures .1) in
-    let l2 = line-hex l1 16 m (lit≤ tt) (p2 .put-double .ensures .0) (p2 .put-double .ensures .1) in
-    let l3 = line-text l2 (bytes " scale=") (lit≤ tt) (p3 .put2 .ensures .0) (p3 .put2 .ensures .1) in
-    let l4 = line-hex l3 16 n (lit≤ tt) (p4 .put-double2 .ensures .0) (p4 .put-double2 .ensures .1) in
-    let l5 = line-text l4 (bytes "\n") (lit≤ tt) (p5 .put3 .ensures .0) (p5 .put3 .ensures .1) in
+    let l1 = grown-text line-none (bytes "max=") (lit≤ tt) (p1 .put .ensures .0) (p1 .put .ensures .1) in
+    let l2 = grown-hex l1 16 m (lit≤ tt) (p2 .put-double .ensures .0) (p2 .put-double .ensures .1) in
+    let l3 = grown-text l2 (bytes " scale=") (lit≤ tt) (p3 .put2 .ensures .0) (p3 .put2 .ensures .1) in
+    let l4 = grown-hex l3 16 n (lit≤ tt) (p4 .put-double2 .ensures .0) (p4 .put-double2 .ensures .1) in
+    let l5 = grown-text l4 (bytes "\n") (lit≤ tt) (p5 .put3 .ensures .0) (p5 .put3 .ensures .1) in
     rw (eq-eqb _ _ (s .if1 .left)) (line-all l5 _ (simp append-assoc) (lit≤ tt))
 
 pub scales-line-spec : {M : Type 1} → statement M

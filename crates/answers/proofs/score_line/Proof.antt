@@ -5,8 +5,9 @@ use mathlib.Core.List.{append-assoc}
 use lib.Dec.{lit≤}
 use Rattle.text.specs.Text.{bytes, hex}
 use Rattle.text.specs.Doubles.{bitsShown}
+use Rattle.text.specs.Laws.Placed.{grown-text, grown-hex}
 use Rattle.answers.specs.Answers.{scoreLine}
-use Rattle.answers.proofs.Pieces.{line-none, line-text, line-hex, line-all}
+use Rattle.answers.proofs.Pieces.{line-none, line-all}
 use Rattle.answers.proofs.score_line.Statement.{statement}
 use Rattle.answers.proofs.score_line.Tie as tie
 
@@ -49,9 +50,9 @@ returns-2 c =
     let k = d .before .before .before in
     let s = k .before .before .before in
     let b = bitsShown (s .before .before .args .t .score) in
-    let l1 = line-text line-none (bytes "score=") (lit≤ tt) (k .put .ensures .0) (k .put .ensures .1) in
-    let l2 = line-hex l1 16 b (lit≤ tt) (d .put-double .ensures .0) (d .put-double .ensures .1) in
-    let l3 = line-text l2 (bytes "\n") (lit≤ tt) (e .put2 .ensures .0) (e .put2 .ensures .1) in
+    let l1 = grown-text line-none (bytes "score=") (lit≤ tt) (k .put .ensures .0) (k .put .ensures .1) in
+    let l2 = grown-hex l1 16 b (lit≤ tt) (d .put-double .ensures .0) (d .put-double .ensures .1) in
+    let l3 = grown-text l2 (bytes "\n") (lit≤ tt) (e .put2 .ensures .0) (e .put2 .ensures .1) in
     rw (eq-eqb _ _ (s .if1 .left)) (line-all l3 _ (simp append-assoc) (lit≤ tt))
 
 pub score-line-spec : {M : Type 1} → statement M

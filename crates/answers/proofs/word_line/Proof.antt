@@ -5,8 +5,9 @@ use mathlib.Core.List.{append-assoc}
 use lib.ListN.{length}
 use lib.Dec.{lit≤}
 use Rattle.text.specs.Text.{bytes, hex}
+use Rattle.text.specs.Laws.Placed.{grown-text, grown-hex}
 use Rattle.answers.specs.Answers.{encodedLine}
-use Rattle.answers.proofs.Pieces.{line-none, line-text, line-hex, line-all}
+use Rattle.answers.proofs.Pieces.{line-none, line-all}
 use Rattle.answers.proofs.word_line.Statement.{statement}
 use Rattle.answers.proofs.word_line.Tie as tie
 
@@ -49,9 +50,9 @@ returns-2 c =
     let k = d .before .before .before in
     let s = k .before .before .before in
     let w = s .before .before .args .e .word in
-    let l1 = line-text line-none (bytes "word=") (lit≤ tt) (k .put .ensures .0) (k .put .ensures .1) in
-    let l2 = line-hex l1 12 w (lit≤ tt) (d .put-hex .ensures .0) (d .put-hex .ensures .1) in
-    let l3 = line-text l2 (bytes "\n") (lit≤ tt) (e .put2 .ensures .0) (e .put2 .ensures .1) in
+    let l1 = grown-text line-none (bytes "word=") (lit≤ tt) (k .put .ensures .0) (k .put .ensures .1) in
+    let l2 = grown-hex l1 12 w (lit≤ tt) (d .put-hex .ensures .0) (d .put-hex .ensures .1) in
+    let l3 = grown-text l2 (bytes "\n") (lit≤ tt) (e .put2 .ensures .0) (e .put2 .ensures .1) in
     rw (eq-eqb _ _ (s .if1 .left)) (line-all l3 _ (simp append-assoc) (lit≤ tt))
 
 pub word-line-spec : {M : Type 1} → statement M

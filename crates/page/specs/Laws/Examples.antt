@@ -4,10 +4,11 @@ use mathlib.Core.Path.{_≡_, refl}
 use mathlib.Core.List.{List, [], _∷_, _++_}
 use Prim.Native.Nat.{ℕ, zero, suc, _-_, _^_}
 use lib.ListN.{replicate}
-use Rattle.text.specs.Text.{bytes}
+use Rattle.text.specs.Text.{bytes, decimal, hex}
 use Rattle.text.specs.Lines.{begins, digitAt, hexAt, decimalAt, decimalLineAt}
-use Rattle.page.specs.Page.{formatLine}
+use Rattle.page.specs.Page.{formatLine, numLine, countLine, wordLine, wordLines, pageText}
 use Rattle.page.specs.Answer.{page, malformed}
+use Rattle.page.specs.Form.{isNum, formText, formNumber, formedOf, formIn}
 use Rattle.page.specs.Reader.{formatAt, wordLineAt, wordsAt, countAt, numAt, readingOf}
 
 -- ---- the example: the text is the page of num 128 and the word 1
@@ -18,6 +19,15 @@ pub example-reads : readingOf example ≡ page 128 (1 ∷ [])
 unfolding readingOf numAt countAt wordsAt wordLineAt decimalLineAt formatAt formatLine decimalAt hexAt digitAt
     begins
 example-reads = refl
+
+-- and it is what `form` makes of them, in a buffer of one byte more, which stays
+pub example-formed : formedOf 128 1 (1 ∷ replicate 63 0) 53 ≡ record { number = 0; length = 52 }
+unfolding formedOf formNumber isNum formText pageText formatLine numLine countLine wordLines wordLine decimal hex
+example-formed = refl
+
+pub example-in : formIn 128 1 (1 ∷ replicate 63 0) (replicate 53 7) ≡ example ++ (7 ∷ [])
+unfolding formIn formNumber isNum formText pageText formatLine numLine countLine wordLines wordLine decimal hex
+example-in = refl
 
 -- ---- num is 1 to 65535
 pub least-num : readingOf (bytes "format=tetra-page\nnum=1\ncount=0\n") ≡ page 1 []

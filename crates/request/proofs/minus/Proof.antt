@@ -7,8 +7,8 @@ use lib.IntN.{ℤ, pos, negℤ, _-ℤ_, +ℤ-idl}
 use mir.Syntax.{w32}
 use mir.Val.{toZ}
 use mir.Facts.{toZ-ofZ, toZ-pos}
+use Rattle.text.specs.Laws.Rows.{minus-mag}
 use Rattle.request.specs.Words.{minusOf}
-use Rattle.request.proofs.Steps.{minus-mag}
 use Rattle.request.proofs.minus.Statement.{statement}
 use Rattle.request.proofs.minus.Tie as tie
 
@@ -41,7 +41,7 @@ itself c = toZ-pos w32 (omega arith)
 sub-t6 : tie.Need-sub-t6
 sub-t6 c =
     let v = c .before .before .before .n .given .0 .0 in
-    rw (itself c) (record { sfits = omega (arith, minus-mag v) })
+    rw (itself c) (record { sfits = omega (arith, minus-mag v 2147483647 (omega arith)) })
 
 returns-4 : tie.Need-returns-4
 unfolding minusOf

@@ -10,9 +10,10 @@ use mir.Val.{SFits}
 use mir.Facts.{toZ-ofZ}
 use lib.IntN.{ℤ}
 use lib.ListN.{length, take, length-set}
+use Rattle.text.specs.Laws.Rows.{row-more}
 use Rattle.request.specs.Words.{signedAfter}
 use Rattle.request.specs.Rows.{onSigned, noPoint, coordinatesFrom, pointAfter}
-use Rattle.request.proofs.Steps.{row-more, point-step, point-end}
+use Rattle.request.proofs.Steps.{point-step, point-end}
 use Rattle.request.proofs.read_point.Statement.{statement}
 use Rattle.request.proofs.read_point.Tie as tie
 

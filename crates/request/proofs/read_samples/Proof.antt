@@ -7,9 +7,10 @@ use mathlib.Core.List.{[], _∷_, _++_}
 use Prim.Native.Nat.{_+_, _-_, _<_, _≤_}
 use lib.Ieee.{Float}
 use lib.ListN.{length, take, length-set}
+use Rattle.text.specs.Laws.Rows.{row-more}
 use Rattle.request.specs.Words.{doubleAfter}
 use Rattle.request.specs.Rows.{onDouble, noSamples, samplesFrom, samplesAfter}
-use Rattle.request.proofs.Steps.{row-more, samples-step, samples-end}
+use Rattle.request.proofs.Steps.{samples-step, samples-end}
 use Rattle.request.proofs.read_samples.Statement.{statement}
 use Rattle.request.proofs.read_samples.Tie as tie
 

@@ -71,7 +71,7 @@ double-is y h =
 abbrev pub All32 : List ℤ → Type 0
 All32 ys = (k : ℕ) → natAbs (getD ys k (pos 0)) ≤ 2 ^ 31
 
-doubles-are : (ys : List ℤ) → All32 ys → Each (UpTo (2 ^ 31 * U)) (doublesOf ys)
+pub doubles-are : (ys : List ℤ) → All32 ys → Each (UpTo (2 ^ 31 * U)) (doublesOf ys)
 unfolding doublesOf
 doubles-are [] h = none
 doubles-are (y ∷ ys) h = more (double-is y (h 0)) (doubles-are ys (λ (k : ℕ). h (suc k)))

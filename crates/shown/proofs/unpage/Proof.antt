@@ -1,9 +1,12 @@
 -- `unpage` meets its contract: what it prints follows from what `read` answers and leaves. Assumes nothing.
 use borrow.Author.Needs.{needs}
 use native.Mathlib.Omega.{arith}
-use mathlib.Core.Path.{ap, _∙_}
+use mathlib.Core.Path.{refl, ap, _∙_}
 use Prim.Native.Nat.{_≤_}
-use Rattle.text.specs.Text.{refusedText}
+use lib.Dec.{lit≤}
+use lib.ListN.{replicate, length-replicate}
+use Rattle.text.specs.Text.{bytes, refusedText}
+use Rattle.text.specs.Laws.Placed.{grown-none, grown-line, grown-front}
 use Rattle.shown.specs.Shown.{blockTexts, inArray}
 use Rattle.shown.proofs.Printing.{prints-refused, few, prints-blocks, in-array}
 use Rattle.shown.proofs.unpage.Statement.{statement}
@@ -15,19 +18,31 @@ slice-aggregate-read c = search needs
 read-requires : tie.Need-read-requires
 read-requires c κs = search needs
 
-slice-aggregate-put-refused : tie.Need-slice-aggregate-put-refused
-slice-aggregate-put-refused c = search needs
+slice-aggregate-put-line : tie.Need-slice-aggregate-put-line
+slice-aggregate-put-line c = search needs
 
-put-refused-requires : tie.Need-put-refused-requires
-put-refused-requires c κs = search needs
+slice-aggregate-put-line-2 : tie.Need-slice-aggregate-put-line-2
+slice-aggregate-put-line-2 c = search needs
 
+cast-put-line : tie.Need-cast-put-line
+cast-put-line c = search needs
+
+put-line-requires : tie.Need-put-line-requires
+put-line-requires c κs = search needs
+
+-- a refusal's number has at most ten digits
 returns : tie.Need-returns
+unfolding refusedText
 returns c =
-    let r = c .before .before .before .before .before .read in
-    let q = c .before .put-refused .ensures in
-    let t = prints-refused _ (r .result) _ (r .ensures .0) (omega arith) (c .before .before .before .if1 .taken) in
-    let h : c .before .put-refused .result ≤ 20672 = omega (arith, q .1) in
-    (in-array _ _ (refusedText (r .result .number)) (q .0) h (q .2) ∙ ap inArray t, h)
+    let r = c .before .before .before .before .before .before .read in
+    let n = r .result .number in
+    let y = c .before .put-line in
+    let g0 = grown-none (replicate 20672 0) 0 20672 (rw length-replicate (omega arith)) in
+    let g1 = grown-line g0 (bytes "refused=") 9 n (omega (arith, r .ok)) (lit≤ tt) (y .ensures .0) (y .ensures .1) in
+    let q = grown-front g1 (refusedText n) refl in
+    let t = prints-refused _ (r .result) _ (r .ensures .0) (omega arith) (c .before .before .before .before .if1 .taken) in
+    let h : y .result ≤ 20672 = omega (arith, q .1) in
+    (in-array _ _ (refusedText n) (q .0) h (q .2) ∙ ap inArray t, h)
 
 slice-aggregate-put-all : tie.Need-slice-aggregate-put-all
 slice-aggregate-put-all c = search needs
@@ -59,8 +74,10 @@ unpage-spec =
     (tie.spec
     slice-aggregate-read
     read-requires
-    slice-aggregate-put-refused
-    put-refused-requires
+    slice-aggregate-put-line
+    slice-aggregate-put-line-2
+    cast-put-line
+    put-line-requires
     returns
     slice-aggregate-put-all
     slice-aggregate-put-all-2

@@ -17,7 +17,7 @@ use Rattle.text.specs.declared.line.Line.{Line}
 use Rattle.text.specs.declared.line.Line.the-variants.{Good, Bad}
 use Rattle.text.specs.Text.{line, decimal, hex, hexDigit}
 use Rattle.text.specs.Laws.Text.{hex-length, decimal-small, decimal-more, decimal-step, decimal-some}
-use Rattle.text.specs.Lines.{onLine, onDigit, begins, digitAt, hexAt, decimalAt, decimalLineAt}
+use Rattle.text.specs.Lines.{onLine, onDigit, begins, digitAt, hexAt, decimalAt, keyedAt, decimalLineAt}
 
 -- ---- a digit
 module _ (b : ℕ) where
@@ -137,19 +137,19 @@ begins-only (b ∷ s) (k ∷ key) e =
 pub key-fits : (s key : List ℕ) → begins s key ≡ true → length key ≤ length s
 key-fits s key e = omega (arith, ap length (begins-only s key e), length-append key (drop (length key) s))
 
--- ---- a decimal number up to LF
+-- ---- a decimal number up to its end, a byte below the figures
 -- no digit follows a leading zero
 no-lead : (v j : ℕ) → (0 < j → 0 < v) → (ltb 0 j && eqb v 0) ≡ false
 no-lead v zero h = refl
 no-lead v (suc j) h = rw (lt-ltb 0 (suc j) (omega arith)) (ne-eqb v 0 (λ e. omega (arith, h (omega arith))))
 
-one-digit : (most v j d : ℕ) (rest : List ℕ) → d < 10 → v * 10 + d ≤ most → (0 < j → 0 < v)
-    → decimalAt most v j ((48 + d) ∷ rest) ≡ decimalAt most (v * 10 + d) (j + 1) rest
+one-digit : (end most v j d : ℕ) (rest : List ℕ) → end < 48 → d < 10 → v * 10 + d ≤ most → (0 < j → 0 < v)
+    → decimalAt end most v j ((48 + d) ∷ rest) ≡ decimalAt end most (v * 10 + d) (j + 1) rest
 unfolding decimalAt
-one-digit most v j d rest hd hm hv =
+one-digit end most v j d rest he hd hm hv =
     let e : 48 + d - 48 ≡ d = omega arith in
     rw (
-      ne-eqb (48 + d) 10 (λ q. omega arith),
+      ne-eqb (48 + d) end (λ q. omega arith),
       le-ltb (48 + d) 48 (omega arith),
       le-ltb 57 (48 + d) (omega arith),
       e,
@@ -157,18 +157,18 @@ one-digit most v j d rest hd hm hv =
       no-lead v j hv,
     )
 
-digits-back : (most f x : ℕ) (rest : List ℕ) → x < f → x ≤ most
-    → decimalAt most 0 0 (decimal x ++ rest) ≡ decimalAt most x (length (decimal x)) rest
-digits-back most zero x rest hf hm = absurd (omega arith)
-digits-back most (suc f) x rest hf hm =
-    go (ltb x 10) refl (λ h r. digits-back most f (x / 10) r (omega arith) (omega arith))
+digits-back : (end most f x : ℕ) (rest : List ℕ) → end < 48 → x < f → x ≤ most
+    → decimalAt end most 0 0 (decimal x ++ rest) ≡ decimalAt end most x (length (decimal x)) rest
+digits-back end most zero x rest he hf hm = absurd (omega arith)
+digits-back end most (suc f) x rest he hf hm =
+    go (ltb x 10) refl (λ h r. digits-back end most f (x / 10) r he (omega arith) (omega arith))
   where
     go : (p : Bool) → ltb x 10 ≡ p
-        → (10 ≤ x → (r : List ℕ) → decimalAt most 0 0 (decimal (x / 10) ++ r) ≡ decimalAt most (x / 10) (length (decimal (x / 10))) r)
-        → decimalAt most 0 0 (decimal x ++ rest) ≡ decimalAt most x (length (decimal x)) rest
+        → (10 ≤ x → (r : List ℕ) → decimalAt end most 0 0 (decimal (x / 10) ++ r) ≡ decimalAt end most (x / 10) (length (decimal (x / 10))) r)
+        → decimalAt end most 0 0 (decimal x ++ rest) ≡ decimalAt end most x (length (decimal x)) rest
     go true e ih =
         let l = ltb-true x 10 e in
-        rw (decimal-small x l) (rw zero-add at (one-digit most 0 0 x rest l (omega arith) (λ h. h)))
+        rw (decimal-small x l) (rw zero-add at (one-digit end most 0 0 x rest he l (omega arith) (λ h. h)))
     go false e ih =
         let l = ltb-false x 10 e in
         let q : x / 10 * 10 + x % 10 ≡ x = omega arith in
@@ -177,14 +177,16 @@ digits-back most (suc f) x rest hf hm =
           append-assoc,
           ih l,
           length-append,
-          one-digit most (x / 10) (length (decimal (x / 10))) (x % 10) rest (omega arith) (omega arith) (λ h. omega arith),
+          one-digit end most (x / 10) (length (decimal (x / 10))) (x % 10) rest he (omega arith) (omega arith) (λ h. omega arith),
           q,
         )
 
-decimal-back : (most x : ℕ) (rest : List ℕ) → x ≤ most → decimalAt most 0 0 (decimal x ++ (10 ∷ rest)) ≡ Good x (length (decimal x) + 1)
+pub decimal-back : (end most x : ℕ) (rest : List ℕ) → end < 48 → x ≤ most
+    → decimalAt end most 0 0 (decimal x ++ (end ∷ rest)) ≡ Good x (length (decimal x) + 1)
 unfolding decimalAt
-decimal-back most x rest h =
-    digits-back most (suc x) x (10 ∷ rest) (omega arith) h ∙ rw (ne-eqb (length (decimal x)) 0 (λ e. omega (arith, decimal-some x)))
+decimal-back end most x rest he h =
+    digits-back end most (suc x) x (end ∷ rest) he (omega arith) h
+    ∙ rw (eq-eqb end end refl, ne-eqb (length (decimal x)) 0 (λ e. omega (arith, decimal-some x)))
 
 -- the digits read so far, j of them, which make v
 abbrev sofar : ℕ → ℕ → List ℕ
@@ -204,25 +206,25 @@ sofar-more v (suc j) b h l lo hi =
     let e : 48 + (b - 48) ≡ b = omega arith in
     rw (add-one) (decimal-step v (b - 48) (omega (arith, n)) (omega arith) ∙ rw e)
 
-decimal-from : (most : ℕ) (s : List ℕ) (v j x n : ℕ) → v ≤ most → (j ≡ 0 → v ≡ 0) → length (sofar j v) ≡ j
-    → decimalAt most v j s ≡ Good x n
-    → (r : List ℕ) × (sofar j v ++ s ≡ decimal x ++ (10 ∷ r)) × (n ≡ length (decimal x) + 1) × (x ≤ most)
+decimal-from : (end most : ℕ) (s : List ℕ) (v j x n : ℕ) → v ≤ most → (j ≡ 0 → v ≡ 0) → length (sofar j v) ≡ j
+    → decimalAt end most v j s ≡ Good x n
+    → (r : List ℕ) × (sofar j v ++ s ≡ decimal x ++ (end ∷ r)) × (n ≡ length (decimal x) + 1) × (x ≤ most)
 unfolding decimalAt
-decimal-from most [] v j x n hm hz hl e = let z : _≡_ {A = ℕ} 0 1 = cc in absurd (omega arith)
-decimal-from most (b ∷ s) v j x n hm hz hl e =
-    go (eqb b 10) (eqb j 0) (ltb b 48) (ltb 57 b) (ltb most (v * 10 + (b - 48))) (ltb 0 j && eqb v 0) refl refl refl refl refl refl e
-    (decimal-from most s (v * 10 + (b - 48)) (j + 1) x n)
+decimal-from end most [] v j x n hm hz hl e = let z : _≡_ {A = ℕ} 0 1 = cc in absurd (omega arith)
+decimal-from end most (b ∷ s) v j x n hm hz hl e =
+    go (eqb b end) (eqb j 0) (ltb b 48) (ltb 57 b) (ltb most (v * 10 + (b - 48))) (ltb 0 j && eqb v 0) refl refl refl refl refl refl e
+    (decimal-from end most s (v * 10 + (b - 48)) (j + 1) x n)
   where
     goal : Type 0
-    goal = (r : List ℕ) × (sofar j v ++ (b ∷ s) ≡ decimal x ++ (10 ∷ r)) × (n ≡ length (decimal x) + 1) × (x ≤ most)
+    goal = (r : List ℕ) × (sofar j v ++ (b ∷ s) ≡ decimal x ++ (end ∷ r)) × (n ≡ length (decimal x) + 1) × (x ≤ most)
 
-    go : (p o q r t u : Bool) → eqb b 10 ≡ p → eqb j 0 ≡ o → ltb b 48 ≡ q → ltb 57 b ≡ r → ltb most (v * 10 + (b - 48)) ≡ t
+    go : (p o q r t u : Bool) → eqb b end ≡ p → eqb j 0 ≡ o → ltb b 48 ≡ q → ltb 57 b ≡ r → ltb most (v * 10 + (b - 48)) ≡ t
         → (ltb 0 j && eqb v 0) ≡ u
         → cond p (cond o Bad (Good v (j + 1)))
-        (cond q Bad (cond r Bad (cond t Bad (cond u Bad (decimalAt most (v * 10 + (b - 48)) (j + 1) s))))) ≡ Good x n
+        (cond q Bad (cond r Bad (cond t Bad (cond u Bad (decimalAt end most (v * 10 + (b - 48)) (j + 1) s))))) ≡ Good x n
         → (v * 10 + (b - 48) ≤ most → (j + 1 ≡ 0 → v * 10 + (b - 48) ≡ 0) → length (sofar (j + 1) (v * 10 + (b - 48))) ≡ j + 1
-        → decimalAt most (v * 10 + (b - 48)) (j + 1) s ≡ Good x n
-        → (r : List ℕ) × (sofar (j + 1) (v * 10 + (b - 48)) ++ s ≡ decimal x ++ (10 ∷ r)) × (n ≡ length (decimal x) + 1) × (x ≤ most))
+        → decimalAt end most (v * 10 + (b - 48)) (j + 1) s ≡ Good x n
+        → (r : List ℕ) × (sofar (j + 1) (v * 10 + (b - 48)) ++ s ≡ decimal x ++ (end ∷ r)) × (n ≡ length (decimal x) + 1) × (x ≤ most))
         → goal
     go true true q r t u hp ho hq hr ht hu e ih = let z : _≡_ {A = ℕ} 0 1 = cc in absurd (omega arith)
     go true false q r t u hp ho hq hr ht hu e ih =
@@ -230,7 +232,7 @@ decimal-from most (b ∷ s) v j x n hm hz hl e =
         let y : v ≡ x = cc in
         let w : j + 1 ≡ n = cc in
         let k : length (decimal x) ≡ j = cc in
-        (s, rw (d, y, eqb-true b 10 hp), omega arith, omega arith)
+        (s, rw (d, y, eqb-true b end hp), omega arith, omega arith)
     go false o true r t u hp ho hq hr ht hu e ih = let z : _≡_ {A = ℕ} 0 1 = cc in absurd (omega arith)
     go false o false true t u hp ho hq hr ht hu e ih = let z : _≡_ {A = ℕ} 0 1 = cc in absurd (omega arith)
     go false o false false true u hp ho hq hr ht hu e ih = let z : _≡_ {A = ℕ} 0 1 = cc in absurd (omega arith)
@@ -241,69 +243,82 @@ decimal-from most (b ∷ s) v j x n hm hz hl e =
         let i = ih (ltb-false most (v * 10 + (b - 48)) ht) (λ z. absurd (omega arith)) k e in
         (i .0, sym (append-assoc (sofar j v) (b ∷ []) s) ∙ ap (λ (l : List ℕ). l ++ s) (sym m) ∙ i .1, i .2, i .3)
 
-pub decimal-only : (most : ℕ) (s : List ℕ) (x n : ℕ) → decimalAt most 0 0 s ≡ Good x n
-    → (r : List ℕ) × (s ≡ decimal x ++ (10 ∷ r)) × (n ≡ length (decimal x) + 1) × (x ≤ most)
-decimal-only most s x n = decimal-from most s 0 0 x n (omega arith) (λ h. refl) refl
+pub decimal-only : (end most : ℕ) (s : List ℕ) (x n : ℕ) → decimalAt end most 0 0 s ≡ Good x n
+    → (r : List ℕ) × (s ≡ decimal x ++ (end ∷ r)) × (n ≡ length (decimal x) + 1) × (x ≤ most)
+decimal-only end most s x n = decimal-from end most s 0 0 x n (omega arith) (λ h. refl) refl
 
 -- ---- lines
--- the reader `read` accepts a text just where it begins with the line of a value that is fine, and answers that value and the line's length
-pub record LineRule (read : List ℕ → Line) (fine : ℕ → Type 0) (lineOf : ℕ → List ℕ) : Type 0 where
-  pub back : (v : ℕ) → fine v → (rest : List ℕ) → read (lineOf v ++ rest) ≡ Good v (length (lineOf v))
-  pub only : (s : List ℕ) (v n : ℕ) → read s ≡ Good v n → fine v × (n ≡ length (lineOf v)) × (s ≡ lineOf v ++ drop n s)
+-- the reader `read` accepts a text just where it begins with the text of a value that is fine, and answers that value and the text's length;
+-- `good` is the answer of a value and a length
+pub record ReadRule {A B : Type 0} (good : B → ℕ → A) (read : List ℕ → A) (fine : B → Type 0) (textOf : B → List ℕ) : Type 0 where
+  pub back : (v : B) → fine v → (rest : List ℕ) → read (textOf v ++ rest) ≡ good v (length (textOf v))
+  pub only : (s : List ℕ) (v : B) (n : ℕ) → read s ≡ good v n → fine v × (n ≡ length (textOf v)) × (s ≡ textOf v ++ drop n s)
+
+-- the same of a reader whose values are numbers
+abbrev pub LineRule : (List ℕ → Line) → (ℕ → Type 0) → (ℕ → List ℕ) → Type 0
+LineRule read fine lineOf = ReadRule Good read fine lineOf
 
 -- what follows the line is what is left at its length
-cut : (l r s : List ℕ) (n : ℕ) → s ≡ l ++ r → n ≡ length l → s ≡ l ++ drop n s
+pub cut : (l r s : List ℕ) (n : ℕ) → s ≡ l ++ r → n ≡ length l → s ≡ l ++ drop n s
 cut l r s n e h = e ∙ ap (λ (t : List ℕ). l ++ t) (sym (rw (e, h) (drop-append-seam l r)))
 
-module _ (key : List ℕ) (least most : ℕ) where
-  decimal-line-back : (v : ℕ) → (least ≤ v) × (v ≤ most) → (rest : List ℕ)
-      → decimalLineAt key least most (line key (decimal v) ++ rest) ≡ Good v (length (line key (decimal v)))
-  unfolding decimalLineAt
-  decimal-line-back v h rest =
+module _ (end : ℕ) (key : List ℕ) (least most : ℕ) where
+  -- the key, the number, its end
+  abbrev keyed : ℕ → List ℕ
+  keyed v = key ++ (decimal v ++ (end ∷ []))
+
+  keyed-back : end < 48 → (v : ℕ) → (least ≤ v) × (v ≤ most) → (rest : List ℕ)
+      → keyedAt end key least most (keyed v ++ rest) ≡ Good v (length (keyed v))
+  keyed-back he v h rest =
       rw (
-        append-assoc key (decimal v ++ (10 ∷ [])) rest,
-        begins-back key ((decimal v ++ (10 ∷ [])) ++ rest),
-        drop-append-seam key ((decimal v ++ (10 ∷ [])) ++ rest),
-        append-assoc (decimal v) (10 ∷ []) rest,
-        decimal-back most v rest (h .1),
+        append-assoc key (decimal v ++ (end ∷ [])) rest,
+        begins-back key ((decimal v ++ (end ∷ [])) ++ rest),
+        drop-append-seam key ((decimal v ++ (end ∷ [])) ++ rest),
+        append-assoc (decimal v) (end ∷ []) rest,
+        decimal-back end most v rest he (h .1),
         le-ltb v least (h .0),
       )
       (ap (λ (n : ℕ). Good v n) (sym (simp length-append)))
 
-  decimal-line-only : (s : List ℕ) (v n : ℕ) → decimalLineAt key least most s ≡ Good v n
-      → ((least ≤ v) × (v ≤ most)) × (n ≡ length (line key (decimal v))) × (s ≡ line key (decimal v) ++ drop n s)
-  unfolding decimalLineAt
-  decimal-line-only s v n e = go (begins s key) (decimalAt most 0 0 (drop (length key) s)) refl refl e
+  pub keyed-only : (s : List ℕ) (v n : ℕ) → keyedAt end key least most s ≡ Good v n
+      → ((least ≤ v) × (v ≤ most)) × (n ≡ length (keyed v)) × (s ≡ keyed v ++ drop n s)
+  keyed-only s v n e = go (begins s key) (decimalAt end most 0 0 (drop (length key) s)) refl refl e
     where
-      last : (x m : ℕ) → begins s key ≡ true → decimalAt most 0 0 (drop (length key) s) ≡ Good x m → (p : Bool) → ltb x least ≡ p
+      last : (x m : ℕ) → begins s key ≡ true → decimalAt end most 0 0 (drop (length key) s) ≡ Good x m → (p : Bool) → ltb x least ≡ p
           → cond p Bad (Good x (length key + m)) ≡ Good v n
-          → ((least ≤ v) × (v ≤ most)) × (n ≡ length (line key (decimal v))) × (s ≡ line key (decimal v) ++ drop n s)
+          → ((least ≤ v) × (v ≤ most)) × (n ≡ length (keyed v)) × (s ≡ keyed v ++ drop n s)
       last x m hb hd true hp e = let z : _≡_ {A = ℕ} 0 1 = cc in absurd (omega arith)
       last x m hb hd false hp e =
-          let d = decimal-only most (drop (length key) s) x m hd in
+          let d = decimal-only end most (drop (length key) s) x m hd in
           let y : x ≡ v = cc in
           let z : length key + m ≡ n = cc in
-          let k : length (line key (decimal x)) ≡ length key + (length (decimal x) + 1) = simp length-append in
-          let f : s ≡ line key (decimal x) ++ d .0 =
+          let k : length (keyed x) ≡ length key + (length (decimal x) + 1) = simp length-append in
+          let f : s ≡ keyed x ++ d .0 =
           begins-only s key hb
-          ∙ ap (λ (l : List ℕ). key ++ l) (d .1 ∙ sym (append-assoc (decimal x) (10 ∷ []) (d .0)))
-          ∙ sym (append-assoc key (decimal x ++ (10 ∷ [])) (d .0)) in
-          let w : n ≡ length (line key (decimal x)) = omega (arith, d .2) in
-          ((omega (arith, ltb-false x least hp), omega (arith, d .3)), rw (← y) w, rw (← y) (cut (line key (decimal x)) (d .0) s n f w))
+          ∙ ap (λ (l : List ℕ). key ++ l) (d .1 ∙ sym (append-assoc (decimal x) (end ∷ []) (d .0)))
+          ∙ sym (append-assoc key (decimal x ++ (end ∷ [])) (d .0)) in
+          let w : n ≡ length (keyed x) = omega (arith, d .2) in
+          ((omega (arith, ltb-false x least hp), omega (arith, d .3)), rw (← y) w, rw (← y) (cut (keyed x) (d .0) s n f w))
 
-      go : (p : Bool) (l : Line) → begins s key ≡ p → decimalAt most 0 0 (drop (length key) s) ≡ l
+      go : (p : Bool) (l : Line) → begins s key ≡ p → decimalAt end most 0 0 (drop (length key) s) ≡ l
           → cond p (onLine l Bad (λ x m. cond (ltb x least) Bad (Good x (length key + m)))) Bad ≡ Good v n
-          → ((least ≤ v) × (v ≤ most)) × (n ≡ length (line key (decimal v))) × (s ≡ line key (decimal v) ++ drop n s)
+          → ((least ≤ v) × (v ≤ most)) × (n ≡ length (keyed v)) × (s ≡ keyed v ++ drop n s)
       go true (Good x m) hb hd e = last x m hb hd (ltb x least) refl e
       go true Bad hb hd e = let z : _≡_ {A = ℕ} 0 1 = cc in absurd (omega arith)
       go false l hb hd e = let z : _≡_ {A = ℕ} 0 1 = cc in absurd (omega arith)
 
-  pub decimal-rule : LineRule (decimalLineAt key least most) (λ v. (least ≤ v) × (v ≤ most)) (λ v. line key (decimal v))
-  decimal-rule = record { back = decimal-line-back; only = decimal-line-only }
+  pub keyed-rule : end < 48 → LineRule (keyedAt end key least most) (λ v. (least ≤ v) × (v ≤ most)) keyed
+  keyed-rule he = record { back = keyed-back he; only = keyed-only }
 
--- a line that is there is no longer than the text
-pub line-fits : (read : List ℕ → Line) (fine : ℕ → Type 0) (lineOf : ℕ → List ℕ) → LineRule read fine lineOf → (s : List ℕ) (v n : ℕ)
-    → read s ≡ Good v n → n ≤ length s
+-- a line is the one that ends in LF
+pub decimal-rule : (key : List ℕ) (least most : ℕ)
+    → LineRule (decimalLineAt key least most) (λ v. (least ≤ v) × (v ≤ most)) (λ v. line key (decimal v))
+unfolding decimalLineAt
+decimal-rule key least most = keyed-rule 10 key least most (omega arith)
+
+-- what is there is no longer than the text
+pub line-fits : {A B : Type 0} {good : B → ℕ → A} (read : List ℕ → A) (fine : B → Type 0) (lineOf : B → List ℕ) → ReadRule good read fine lineOf
+    → (s : List ℕ) (v : B) (n : ℕ) → read s ≡ good v n → n ≤ length s
 line-fits read fine lineOf rule s v n e =
     let o = rule .only s v n e in
     omega (arith, o .1, ap length (o .2), length-append (lineOf v) (drop n s))

@@ -4,8 +4,9 @@ use mathlib.Core.Bool.{Bool, true, false, cond}
 use mathlib.Core.List.{[], _∷_, _++_}
 use Prim.Native.Nat.{ℕ, zero, suc, _+_, _*_, _/_, _%_, _^_, _<_, _≤_}
 use native.Mathlib.Omega.{arith}
-use native.Mathlib.Nat.{pow-suc}
+use native.Mathlib.Nat.{pow-suc, one-le-pow}
 use borrow.Author.Tests.{lt-ltb, le-ltb, ltb-true, ltb-false}
+use lib.Arith.{mod-mul}
 use lib.Dec.{ltb}
 use lib.ListN.{length, length-append}
 use Rattle.text.specs.Text.{decimal, decimalBy, hex, hexDigit}
@@ -66,3 +67,14 @@ pub hex-length : (k n : ℕ) → length (hex k n) ≡ k
 unfolding hex
 hex-length zero n = refl
 hex-length (suc k) n = length-append (hex k (n / 16)) (hexDigit (n % 16) ∷ []) ∙ rw (hex-length k (n / 16)) (omega arith)
+
+-- the last k digits are those of the number below 16 ^ k that is left of n
+pub hex-low : (k n : ℕ) → hex k (n % 16 ^ k) ≡ hex k n
+unfolding hex
+hex-low zero n = refl
+hex-low (suc k) n =
+    let e : n % 16 ^ suc k ≡ n / 16 % 16 ^ k * 16 + n % 16 =
+    ap (λ (m : ℕ). n % m) (pow-suc 16 k) ∙ mod-mul n (one-le-pow k 16 (omega arith)) (omega arith) in
+    let q : n % 16 ^ suc k / 16 ≡ n / 16 % 16 ^ k = omega arith in
+    let r : n % 16 ^ suc k % 16 ≡ n % 16 = omega arith in
+    rw (q, r, hex-low k (n / 16))

@@ -9,8 +9,9 @@ use lib.Signed.{ltZ}
 use mir.Syntax.{w32}
 use mir.Val.{toZ}
 use mir.Facts.{toZ-ofZ, toZ-pos}
+use Rattle.text.specs.Laws.Rows.{minus-mag}
 use Rattle.page.specs.Counts.{nearest}
-use Rattle.page.proofs.Counting.{count-below, minus-mag, count-above}
+use Rattle.page.proofs.Counting.{count-below, count-above}
 use Rattle.page.proofs.count.count_of.Statement.{statement}
 use Rattle.page.proofs.count.count_of.Tie as tie
 
@@ -37,7 +38,7 @@ sub-result : tie.Need-sub-result
 sub-result c =
     let r = c .before .nearest .result in
     let e : toZ w32 r ≡ pos r = toZ-pos w32 (omega (arith, c .before .nearest .ensures .1)) in
-    rw e (record { sfits = omega (arith, minus-mag r, c .before .nearest .ensures .1) })
+    rw e (record { sfits = omega (arith, minus-mag r r (omega arith), c .before .nearest .ensures .1) })
 
 returns : tie.Need-returns
 returns c =
