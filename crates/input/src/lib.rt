@@ -1,5 +1,5 @@
-// Standard input, read whole into a lent buffer. What a read answers is the host's to say, so no contract can say what is read: this one says
-// that the count is within the buffer.
+// Standard input, read whole into a lent buffer. What a read answers is the host's to say, so no contract can
+// say what is read: this one says that the count is within the buffer.
 use libc::STDIN_FILENO;
 ghost use Rattle.io.specs.Counts.{Counts};
 

@@ -1,4 +1,5 @@
-// mkpage: prints the page of the trace on standard input, a num line and what unpage prints, or why there is none.
+// mkpage: prints the page of the trace on standard input, a num line and what unpage prints, or why there is
+// none.
 //
 // A program of this language has no exit status. So a read or a write that fails is said on standard error:
 // after a read nothing is printed, after a write nothing more is.
@@ -19,8 +20,8 @@ fn complain(what: &[u8]) {
     io::write_all(STDERR_FILENO, what);
 }
 
-// No trace has more than 19,461 bytes, so an input that fills the buffer is none, whatever follows (start-tells
-// of crate trace). Nothing is printed before the whole trace is read.
+// No trace has more than 19,461 bytes, so an input that fills the buffer is none, whatever follows
+// (start-tells of crate trace). Nothing is printed before the whole trace is read.
 fn main() {
     let mut text = [0u8; 19462];
     let read = input::read_all(&mut text);

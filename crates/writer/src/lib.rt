@@ -1,6 +1,6 @@
-// The page writer, request 2026-01: num, a count of blocks and 24 whole samples a block in, the text of their page
-// out, in a lent buffer. The call answers for every input. It is a crate of its own so that page, which reads and
-// forms texts, does not rest on the sample encoder.
+// The page writer, request 2026-01: num, a count of blocks and 24 whole samples a block in, the text of their
+// page out, in a lent buffer. The call answers for every input. It is a crate of its own so that page, which
+// reads and forms texts, does not rest on the sample encoder.
 use refusal::NO_PAGE;
 use refusal::NO_ROOM;
 use refusal::NO_SCALE;
