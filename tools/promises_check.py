@@ -22,8 +22,9 @@ status 1, or prints how much it looked at and ends with status 0. What it takes 
 An item is a paragraph, a point of a list or a row of a table; the files of a row are those of all its
 columns, but in a row of five columns, which goes across crates, a name may be declared anywhere. Text between <!-- and -->, and between the marks of the trusted list and of the key, is passed over.
 
-Besides, each public function of the crates has to be named by the first lines of two edits or more, of
-code and not of a definition; those of crate promise, which only make the calls of the others, need none."""
+Besides, each public function of the crates has to be named by the first lines of two edits or more that
+change nothing but code. Those of crate promise only make the calls of the others, and what stands there to
+be wrong is their statements: for them two edits of either kind are wanted."""
 import os
 import re
 import sys
@@ -225,16 +226,17 @@ def check_calls(tree, report):
     """Each public function is named by two edits or more: CRATE::NAME, NAME: what is wrong."""
     named = {}
     for path in below(os.path.join(ROOT, 'edits'), '.edit') + below(os.path.join(ROOT, 'crates'), '.edit'):
-        head = read(path).split('\n')[0].split(': ')[0]
-        crate, _, names = head.partition('::')
-        if '(' in head or not names:
+        text = read(path)
+        crate, _, names = text.split('\n')[0].split(': ')[0].partition('::')
+        of_code = all(f.startswith('src/') for f in re.findall(r'^file: (\S+)', text, re.M))
+        if crate != 'promise' and not of_code:
             continue
         for name in re.findall(r'[\w:]+', names):
             call = (crate, name.split('::')[-1])
             named[call] = named.get(call, 0) + 1
     for path in tree.names:
         crate = os.path.relpath(path, os.path.join(ROOT, 'crates')).split(os.sep)[0]
-        if path.endswith('.rt') and crate != 'promise':
+        if path.endswith('.rt'):
             for name in re.findall(r'^\s*pub (?:extern "C" )?fn (\w+)', read(path), re.M):
                 count = named.get((crate, name), 0)
                 report.look('calls', count >= 2, 0, '%s::%s: %d edits, not two' % (crate, name, count))
