@@ -3,13 +3,15 @@
 
     ask_vectors.py VECTORS ORACLE
 
-VECTORS is the folder of answers of the Rust, a case a line: decode.txt and point.txt, a word and its point, or a point and its word or none;
+VECTORS is the folder of answers of the Rust, a case a line: decode.txt and point.txt, a word and its point, or a point and its word or none,
+and why there is none, which the Rust does not say;
 scale.txt and kill.txt, samples at a scale and their code; encode.txt, samples, their code and their lower scale; score.txt, samples, a point
 and its score; shrinks.txt, requests with their answers, some of which change with each shrink that is changed. ORACLE is a program that
 answers request lines by the Rust: each line here that is a request is put to it too and has to be answered as here. It also says the points
-of the codes of encode.txt, which has their words alone.
+of the codes of encode.txt, which has their words alone. The oracle refuses every point that has no word with 5.
 """
 import os
+import re
 import subprocess
 import sys
 
@@ -30,8 +32,13 @@ def decodes(folder):
     return [(f"decode {spelled(word, k)}", f"point={point}") for k, (word, point) in enumerate(rows(folder, "decode.txt"))]
 
 
+def refused(number, section="0"):
+    return f"refused={number}" + (f" section={section}" if section != "0" else "")
+
+
 def points(folder):
-    return [("point " + row[0].replace(",", " "), "refused=5" if row[1] == "none" else f"word={row[1]}")
+    """point.txt: a point, its word or none, number, section."""
+    return [("point " + row[0].replace(",", " "), refused(row[2], row[3]) if row[1] == "none" else f"word={row[1]}")
             for row in rows(folder, "point.txt")]
 
 
@@ -88,6 +95,31 @@ def odd():
             (f"scale 08 3ff0000000000000 {two}", code)]
 
 
+def point_of(*coordinates, rest=0):
+    """The point with value v at coordinate i, for each pair (v, i)."""
+    y = [str(rest)] * 24
+    for v, i in coordinates:
+        y[i] = str(v)
+    return point(y)
+
+
+def reasons():
+    """Points with and without a word, at the bounds, and with more than one thing wrong."""
+    first = [0, 0, -4, -4, -4, 0, 0, 0, 0, -4, 4, 0, 4, 0, 0, -4, 0, 0, 0, 0, -4, 0, 4, 4]
+    return [(point_of(rest=1), "refused=12"), (point_of((4, 0)), "refused=12"), (point_of((2, 0)), "refused=10"), (point_of((1, 0)), "refused=5"),
+            (point_of((12, 0), (4, 1)), "refused=11 section=1"), (point_of((-12, 0), (4, 1)), "refused=11 section=1"),
+            (point_of((16, 0)), "refused=11 section=1"), (point_of((-16, 0)), "refused=11 section=1"),
+            (point_of((-2147483648, 0)), "refused=11 section=1"),
+            (point_of((4, 0), (4, 1), (8, 3), (4, 10), (4, 12)), "word=0000000ffe00"),
+            (point_of((4, 0), (4, 1), (8, 3), (4, 7), (4, 12)), "refused=11 section=1"),
+            (point_of((-4, 9), (-4, 15), (-4, 20), (4, 22), (4, 23)), "refused=12"),
+            (point([str(v) for v in first]), "word=7ff0000ffe02"), (point_of((12, 0)), "refused=11 section=1"),
+            (point_of((8, 6), (4, 16), (4, 17)), "refused=11 section=2"), (point_of((8, 0), (4, 4), (4, 7)), "word=00000009b000"),
+            (point_of(*[(4, i) for i in (5, 8, 16, 17, 21, 23)], (8, 6), (8, 15)), "refused=11 section=2"),
+            (point_of((13, 23), rest=1), "refused=11 section=3"), (point_of((2, 0), (100, 1)), "refused=10"),
+            (point_of((2147483647, 0), (-2147483648, 1)), "refused=5"), (point_of((3, 0), rest=1), "refused=10")]
+
+
 def bad():
     lines = ["", " ", "encode 0", "dec 0", "decoder 0", "DECODE 0", "decode", "decode ", "decode  0", " decode 0", "decode 0 ",
              "decode 0 0", "decode\t0", "decode 0\r", "decode g", "decode 0x1", "decode -1", "decode +1", "decode 00000000000000001"]
@@ -106,9 +138,14 @@ def ask(oracle, lines):
     return run.stdout.splitlines()
 
 
+def folded(answer):
+    """The Rust has one refusal of a point."""
+    return re.sub(r"^refused=(10|11 section=[123]|12)$", "refused=5", answer)
+
+
 def answered(oracle, cases):
     for (line, wanted), got in zip(cases, ask(oracle, [line for line, _ in cases]), strict=True):
-        if got != wanted:
+        if got != folded(wanted):
             sys.exit(f"ask_vectors: {line}\n  here   {wanted}\n  oracle {got}")
     print(f"{len(cases)} requests are answered alike by the oracle")
 
@@ -122,7 +159,7 @@ def main():
         sys.exit(2)
     folder, oracle = sys.argv[1:]
     good = decodes(folder) + points(folder) + scales(folder) + autos(folder, oracle) + lowers(folder) + scores(folder)
-    good += shrinks(folder) + odd()
+    good += shrinks(folder) + odd() + reasons()
     last = ("decode 1", next(answer for line, answer in good if line == "decode 0000000000000001" or line == "decode 1"))
     answered(oracle, good + [last])
     cases = good + bad() + [last]

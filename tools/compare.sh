@@ -1,5 +1,7 @@
 #!/usr/bin/env bash
-# Puts the same requests to the Rust and to the program ask, and compares the answers byte for byte.
+# Puts the same requests to the Rust and to the program ask, and compares the answers byte for byte. The Rust has one refusal of a point, which
+# stands as 5; ask says why, by 5, 10, 11 and a section, or 12, and these are read as 5 before they are compared. tests/points.py compares the
+# reasons.
 #
 #   ORACLE=.. bash tools/compare.sh SEED PARTS TURNS
 #
@@ -37,12 +39,13 @@ for ((k = 0; k < parts; k++)); do
     fi
     "$ORACLE" <"$work/requests" >"$work/rust"
     "${ask[@]}" <"$work/requests" >"$work/ask"
-    if ! cmp "$work/rust" "$work/ask"; then
+    sed -E 's/^refused=(10|11 section=[123]|12)$/refused=5/' "$work/ask" >"$work/folded"
+    if ! cmp "$work/rust" "$work/folded"; then
         echo "seed $((seed + k)): different answers, in $work"
         exit 1
     fi
     cut -d' ' -f1 "$work/requests" >>"$work/kinds"
-    paste -d' ' <(cut -d' ' -f1 "$work/requests") <(grep -oE '^(refused=[0-9]+|[a-z]+)' "$work/ask") >>"$work/answers"
+    paste -d' ' <(cut -d' ' -f1 "$work/requests") <(grep -oE '^(refused=[0-9]+( section=[0-9]+)?|[a-z]+)' "$work/ask") >>"$work/answers"
 done
 echo "requests, all answered alike:"
 sort "$work/kinds" | uniq -c

@@ -8,7 +8,7 @@ use lib.IntN.{ℤ}
 use lib.Ieee.{Float}
 use lib.ListN.{length, replicate}
 use Rattle.refusal.specs.Refusal.{noPage}
-use Rattle.text.specs.Text.{bytes, line, listed, hex, refusedText}
+use Rattle.text.specs.Text.{bytes, line, decimal, listed, hex, refusedText}
 use Rattle.text.specs.Doubles.{bitsShown}
 use Rattle.tetra.specs.Tetra.{pointOf}
 use Rattle.tetra.specs.Encode.{encodeOf}
@@ -39,8 +39,13 @@ doubleText x = hex 16 (bitsShown x)
 unfoldable pub pointLine : List ℤ → List ℕ
 pointLine y = line (bytes "point=") (listed y)
 
+-- a refusal that is about a section names it
+unfoldable pub refusedPoint : ℕ → ℕ → List ℕ
+refusedPoint number section =
+    cond (eqb section 0) (refusedText number) (bytes "refused=" ++ (decimal number ++ line (bytes " section=") (decimal section)))
+
 unfoldable pub encodedLine : Encoded → List ℕ
-encodedLine e = byNumber (e .number) (line (bytes "word=") (hex 12 (e .word)))
+encodedLine e = cond (eqb (e .number) 0) (line (bytes "word=") (hex 12 (e .word))) (refusedPoint (e .number) (e .section))
 
 unfoldable pub codeLine : Code → List ℕ
 codeLine c =

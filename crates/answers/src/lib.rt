@@ -1,7 +1,7 @@
 // The answer to each request line of the program ask, as a line of text.
 //
 //   decode W                    W: 1 to 16 hex digits, either case             -> point=c0,..,c23
-//   point C0 .. C23             C: an i32, decimal digits with a - or no sign  -> word=W12, or refused=5
+//   point C0 .. C23             C: an i32, decimal digits with a - or no sign  -> word=W12, or refused=K, or refused=11 section=S
 //   scale N S X0 .. X23         N: a setting, decimal digits; S, X: doubles    -> word=W12 score=B16 point=c0,..,c23, or refused=K
 //   auto N X0 .. X23            at the scale that the samples give             -> the same
 //   lower X0 .. X23             the largest magnitude and the lower scale      -> max=B16 scale=B16, or refused=K
@@ -23,6 +23,7 @@ use score::Scales;
 use score::Scored;
 use tetra::Encoded;
 use text::put;
+use text::put_decimal;
 use text::put_double;
 use text::put_hex;
 use text::put_line;
@@ -30,7 +31,7 @@ use text::put_list;
 ghost use mathlib.Core.Path.{_≡_};
 ghost use Prim.Native.Nat.{_≤_};
 ghost use Rattle.text.specs.Text.{refusedText};
-ghost use Rattle.answers.specs.Answers.{noRequest, pointLine, encodedLine, codeLine, scalesLine, scoreLine};
+ghost use Rattle.answers.specs.Answers.{noRequest, pointLine, refusedPoint, encodedLine, codeLine, scalesLine, scoreLine};
 ghost use Rattle.answers.specs.Answers.{decodeAnswer, pointAnswer, settingOf, scaleAnswer, autoAnswer, lowerAnswer, scoreAnswer};
 ghost use Rattle.answers.specs.Answers.{ofSamples, answerOf, inLine};
 
@@ -67,11 +68,25 @@ fn point_line(y: [i32; 24]) -> Reply
     Reply { length, bytes }
 }
 
+// A refusal that is about a section names it.
+fn refused_point(number: u32, section: u32) -> Reply
+    ensures { λ r. ⌜ (r ≡ inLine (refusedPoint number section)) × (r .length ≤ 336) ⌝ }
+{
+    if section == 0 {
+        return refused(number);
+    }
+    let mut bytes = [0u8; 336];
+    let a = put(&mut bytes, 0, b"refused=");
+    let b = put_decimal(&mut bytes, a, number as u64);
+    let length = put_line(&mut bytes, b, b" section=", section as u64);
+    Reply { length, bytes }
+}
+
 fn word_line(e: Encoded) -> Reply
     ensures { λ r. ⌜ (r ≡ inLine (encodedLine e)) × (r .length ≤ 336) ⌝ }
 {
     if e.number != 0 {
-        return refused(e.number);
+        return refused_point(e.number, e.section);
     }
     let mut bytes = [0u8; 336];
     let a = put(&mut bytes, 0, b"word=");

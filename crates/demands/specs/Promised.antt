@@ -5,7 +5,7 @@ use Prim.Native.Nat.{ℕ, _^_, _<_}
 use lib.IntN.{ℤ}
 use lib.Ieee.{Float}
 use Rattle.tetra.specs.Tetra.{pointOf}
-use Rattle.tetra.specs.Encode.{encodeOf}
+use Rattle.tetra.specs.Encode.{acceptedWith, encodeOf}
 use Rattle.score.specs.Scale.{secondScale}
 use Rattle.encoder.specs.declared.Code.{Code}
 use Rattle.encoder.specs.Encode.{numberAt, encodeAtOver, higher, encodeOver}
@@ -15,7 +15,7 @@ pub record Coded (c : Code) : Type 0 where
   pub number : c .number ≡ 0
   pub small : c .word < 2 ^ 47
   pub back : pointOf (c .word) ≡ c .point
-  pub again : encodeOf (c .point) ≡ record { number = 0; word = c .word }
+  pub again : encodeOf (c .point) ≡ acceptedWith (c .word)
 
 -- demand 3: number 0, the point y, and its word
 pub record Returns (y : List ℤ) (c : Code) : Type 0 where

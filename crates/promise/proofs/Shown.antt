@@ -19,7 +19,8 @@ use denote.Floats.{FloatOf}
 use Rattle.tetra.specs.Lattice.{HasWord}
 use Rattle.tetra.specs.Tetra.{pointOf}
 use Rattle.tetra.specs.Encode.{encodeOf}
-use Rattle.tetra.specs.Demand2.{decodes, round-trip, accepts, refuses, accepted-back}
+use Rattle.tetra.specs.Why.{Why, Refused}
+use Rattle.tetra.specs.Demand2.{decodes, round-trip, accepts, refuses, refused-iff, accepted-back, why, one-reason}
 use Rattle.tetra.specs.declared.Encoded.{Encoded}
 use Rattle.float.specs.Value.{magUnits, isMinus, zero64}
 use Rattle.float.specs.Laws.Exact.{no-digits, some-digits}
@@ -52,7 +53,8 @@ use Rattle.promise.specs.Demands.{
   RefusesOthers,
   AcceptsMembers,
   KeepsPoint,
-  RefusesBy5,
+  RefusesByFour,
+  SaysWhy,
   Numbered,
   KeepsCode,
   ReturnsNearest,
@@ -87,13 +89,14 @@ pub of-word : (w : ℕ) (y : List ℤ) (e : Encoded) → y ≡ pointOf w → e �
 of-word w y e p q = ((p, subst HasWord (sym p) (decodes w)), q ∙ ap encodeOf p ∙ round-trip w)
 
 pub of-point : (y : List ℤ) (e : Encoded) (z : List ℤ) → length y ≡ 24 → e ≡ encodeOf y
-    → z ≡ pointOf (e .word) → RefusesOthers y e × (AcceptsMembers y e × (KeepsPoint y e z × RefusesBy5 e))
+    → z ≡ pointOf (e .word) → RefusesOthers y e
+    × (AcceptsMembers y e × (KeepsPoint y e z × (RefusesByFour e × SaysWhy y e)))
 of-point y e z l q d = (
   (
-    λ h w b p. none h (subst HasWord p (decodes w)),
-    λ k h. k (e .word) (omega (arith, keeps h .0)) (sym d ∙ keeps h .1),
+    λ h w b p. refused-iff y l .0 (subst Refused n h) (subst HasWord p (decodes w)),
+    λ k. by-four (λ h. k (e .word) (omega (arith, keeps h .0)) (sym d ∙ keeps h .1)) .0,
   ),
-  ((has, λ h. n ∙ accepts y h .number), (keeps, λ h. q ∙ refuses y l (none h))),
+  ((has, λ h. n ∙ accepts y h .number), (keeps, (by-four, says))),
 )
   where
     n : e .number ≡ encodeOf y .number
@@ -105,8 +108,15 @@ of-point y e z l q d = (
     has : e .number ≡ 0 → HasWord y
     has h = subst HasWord (accepted-back y l (sym n ∙ h)) (decodes (encodeOf y .word))
 
-    none : e .number ≢ 0 → HasWord y → ⊥
-    none h k = h (n ∙ accepts y k .number)
+    by-four : RefusesByFour e
+    by-four h =
+        let t = refuses y l (λ k. h (n ∙ accepts y k .number)) in
+        (subst Refused (sym n) (t .refused), v ∙ t .word)
+
+    says : SaysWhy y e
+    says =
+        let r = subst (λ (a : Encoded). Why y (a .number) (a .section)) (sym q) (why y l) in
+        (r, λ m s w. one-reason y l w r)
 
     keeps : KeepsPoint y e z
     keeps h =

@@ -2,6 +2,7 @@
 -- ensures what stands here, for every input. In order: words, points, samples, what samples give besides,
 -- roots, pages, pages that are made. Where the definitions stand that this file and the contracts cite, below crates/:
 --   a lattice point, a point that has a word   `LatticePoint`, `HasWord`              tetra/specs/Lattice
+--   why a point has no word, the four numbers  `Why`, `Refused`                       tetra/specs/Why
 --   the point that a word's fields define      `pointOf`                              tetra/specs/Tetra
 --   the numbers 1 and 2 of samples             `sampleNumber`                         score/specs/Samples
 --   the numbers of a call, in their order      `numberAt`: 7, 3, 1, 2, 4              encoder/specs/Encode
@@ -37,6 +38,7 @@ use lib.Ieee.{Float}
 use lib.Ieee.Scale.{finite}
 use lib.ListN.{length, getD, take, drop, replicate}
 use Rattle.tetra.specs.Lattice.{LatticePoint, HasWord}
+use Rattle.tetra.specs.Why.{Why, Refused}
 use Rattle.tetra.specs.Tetra.{pointOf}
 use Rattle.tetra.specs.Block.{blockAt}
 use Rattle.tetra.specs.declared.Encoded.{Encoded}
@@ -72,16 +74,16 @@ PointOfWord w y = (y ≡ pointOf w) × HasWord y
 
 -- That point encodes to the low 47 bits of the word: without the gain and what stands above it.
 abbrev pub BackToWord : ℕ → Encoded → Type 0
-BackToWord w e = e ≡ record { number = 0; word = w % 2 ^ 47 }
+BackToWord w e = e ≡ record { number = 0; section = 0; word = w % 2 ^ 47 }
 
 -- ---- POINTS (demand 2): `encode` of the point y answers e, `decode` of e's word answers z
 -- no 64-bit word decodes to y
 abbrev pub NoWord : List ℤ → Type 0
 NoWord y = (w : ℕ) → w < 2 ^ 64 → pointOf w ≢ y
 
--- A point is refused exactly where no word decodes to it,
+-- A point is refused, by any of the four numbers 5, 10, 11 and 12, exactly where no word decodes to it,
 abbrev pub RefusesOthers : List ℤ → Encoded → Type 0
-RefusesOthers y e = (e .number ≢ 0) ↔ NoWord y
+RefusesOthers y e = Refused (e .number) ↔ NoWord y
 
 -- and accepted, with number 0, exactly where it is a lattice point that has a word.
 abbrev pub AcceptsMembers : List ℤ → Encoded → Type 0
@@ -91,9 +93,15 @@ AcceptsMembers y e = (e .number ≡ 0) ↔ HasWord y
 abbrev pub KeepsPoint : List ℤ → Encoded → List ℤ → Type 0
 KeepsPoint y e z = e .number ≡ 0 → (e .word < 2 ^ 47) × (z ≡ y)
 
--- (demand 1) A refusal is number 5 and word 0.
-abbrev pub RefusesBy5 : Encoded → Type 0
-RefusesBy5 e = e .number ≢ 0 → e ≡ record { number = 5; word = 0 }
+-- (demand 1) Every number but 0 is one of the four, and the word beside it is 0.
+abbrev pub RefusesByFour : Encoded → Type 0
+RefusesByFour e = e .number ≢ 0 → Refused (e .number) × (e .word ≡ 0)
+
+-- The number, and the section beside 11, say why: they are a reason that holds of the point, and no other
+-- number or section is one.
+abbrev pub SaysWhy : List ℤ → Encoded → Type 0
+SaysWhy y e = Why y (e .number) (e .section)
+    × ((n s : ℕ) → Why y n s → (n ≡ e .number) × (s ≡ e .section))
 
 -- ---- SAMPLES: the call answers c, `decode` of c's word answers y, `encode` of c's point answers e
 -- (demand 1) The call answers its number k, and where that is not 0 the empty code: word 0, 24 zeros, score
@@ -105,7 +113,7 @@ Numbered k c = (c .number ≡ k) × (k ≢ 0 → c ≡ emptyCode k)
 -- the word. That the code is the Rust's is an equation in the contract itself.
 abbrev pub KeepsCode : Code → List ℤ → Encoded → Type 0
 KeepsCode c y e = c .number ≡ 0
-    → (c .word < 2 ^ 47) × (y ≡ c .point) × (e ≡ record { number = 0; word = c .word })
+    → (c .word < 2 ^ 47) × (y ≡ c .point) × (e ≡ record { number = 0; section = 0; word = c .word })
 
 -- (demand 3) The point y is nearer to the target t than every other lattice point, by more than 2 ^ -20 in
 -- exact squared distance, which is counted in units of 2 ^ -2148.

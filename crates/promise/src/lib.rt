@@ -10,7 +10,7 @@ ghost use Rattle.score.specs.Score.{tOf};
 ghost use Rattle.score.specs.Scale.{lowerScale};
 ghost use Rattle.encoder.specs.Encode.{numberAt, numberOf, encodeAtScale, encodeWith, encodeSamples};
 ghost use Rattle.promise.specs.Demands.{PointOfWord, BackToWord};
-ghost use Rattle.promise.specs.Demands.{RefusesOthers, AcceptsMembers, KeepsPoint, RefusesBy5};
+ghost use Rattle.promise.specs.Demands.{RefusesOthers, AcceptsMembers, KeepsPoint, RefusesByFour, SaysWhy};
 ghost use Rattle.promise.specs.Demands.{Numbered, KeepsCode, ReturnsNearest, Scores, Scaled};
 ghost use Rattle.promise.specs.Demands.{RootIsNearest, RootOfZero, RootRefused};
 ghost use Rattle.promise.specs.Demands.{ParsesPages, ParsesNoOther, PrintsPages, PrintsRefusal};
@@ -65,7 +65,8 @@ pub fn from_point(point: [i32; 24]) -> FromPoint
     ensures { λ r. ⌜ RefusesOthers point (r .coded) ⌝ }
     ensures { λ r. ⌜ AcceptsMembers point (r .coded) ⌝ }
     ensures { λ r. ⌜ KeepsPoint point (r .coded) (r .back) ⌝ }
-    ensures { λ r. ⌜ RefusesBy5 (r .coded) ⌝ }
+    ensures { λ r. ⌜ RefusesByFour (r .coded) ⌝ }
+    ensures { λ r. ⌜ SaysWhy point (r .coded) ⌝ }
 {
     let coded = tetra::encode(point);
     let back = tetra::decode(coded.word);

@@ -1,5 +1,5 @@
--- The numbers by which a call refuses bad input: document 01, "Numbers that answer a bad call", with what request 2026-01 adds to 2, 3 and 9. A call that is accepted carries 0.
--- Assumes nothing.
+-- The numbers by which a call refuses bad input: document 01, "Numbers that answer a bad call", with what the requests of document 02 add:
+-- 2026-01 to 2, 3 and 9; 2026-02 to 5, which it splits, and 10 to 12. A call that is accepted carries 0. Assumes nothing.
 use mathlib.Core.Path.{_≡_, refl}
 use mathlib.Core.List.{List, [], _∷_}
 use Prim.Native.Nat.{ℕ}
@@ -20,9 +20,9 @@ noScale = 3
 abbrev pub tooFar : ℕ
 tooFar = 4
 
--- no word decodes to the point
-abbrev pub noWord : ℕ
-noWord = 5
+-- a point's coordinates are not all even or all odd
+abbrev pub mixedParity : ℕ
+mixedParity = 5
 
 -- a field does not fit its width
 abbrev pub tooWide : ℕ
@@ -40,11 +40,23 @@ noRoom = 8
 abbrev pub noPage : ℕ
 noPage = 9
 
+-- a point's bits are no codeword
+abbrev pub noCodeword : ℕ
+noCodeword = 10
+
+-- a section of a point is outside its bound
+abbrev pub outside : ℕ
+outside = 11
+
+-- a point's sum of k is even where it has to be odd, or odd where even
+abbrev pub wrongSum : ℕ
+wrongSum = 12
+
 -- ---- all of them
 abbrev pub numbers : List ℕ
 numbers =
-    notFinite ∷ tooLarge ∷ noScale ∷ tooFar ∷ noWord ∷ tooWide ∷ outOfRange ∷ noRoom ∷ noPage ∷ []
+    notFinite ∷ tooLarge ∷ noScale ∷ tooFar ∷ mixedParity ∷ tooWide ∷ outOfRange ∷ noRoom ∷ noPage ∷ noCodeword ∷ outside ∷ wrongSum ∷ []
 
--- they are the numbers of document 01, from 1 on, so no two reasons share one
-pub from-one : numbers ≡ 1 ∷ 2 ∷ 3 ∷ 4 ∷ 5 ∷ 6 ∷ 7 ∷ 8 ∷ 9 ∷ []
+-- they are the numbers of the documents, from 1 on, so no two reasons share one
+pub from-one : numbers ≡ 1 ∷ 2 ∷ 3 ∷ 4 ∷ 5 ∷ 6 ∷ 7 ∷ 8 ∷ 9 ∷ 10 ∷ 11 ∷ 12 ∷ []
 from-one = refl

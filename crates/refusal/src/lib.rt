@@ -1,4 +1,4 @@
-// The numbers by which a call refuses bad input, each with its name: the list of document 01. Every crate that refuses takes them from here, so
+// The numbers by which a call refuses bad input, each with its name: the list of document 01 and, from 10 on, of document 02. Every crate that refuses takes them from here, so
 // that a number stands in one place of the code and, in specs/Refusal, in one place of the definitions. A call that is accepted carries 0.
 ghost use mathlib.Core.Path.{_≡_};
 ghost use Rattle.refusal.specs.Refusal.{numbers};
@@ -15,8 +15,8 @@ pub const NO_SCALE: u32 = 3;
 // A quotient of a sample by the scale exceeds 1e6 in magnitude.
 pub const TOO_FAR: u32 = 4;
 
-// No word decodes to the point.
-pub const NO_WORD: u32 = 5;
+// A point's coordinates are not all even or all odd.
+pub const MIXED_PARITY: u32 = 5;
 
 // A field does not fit its width.
 pub const TOO_WIDE: u32 = 6;
@@ -30,8 +30,17 @@ pub const NO_ROOM: u32 = 8;
 // A text is no page or no trace; there are too many blocks for a page.
 pub const NO_PAGE: u32 = 9;
 
+// A point's bits are no codeword.
+pub const NO_CODEWORD: u32 = 10;
+
+// A section of a point is outside its bound.
+pub const OUTSIDE: u32 = 11;
+
+// A point's sum of k is even where it has to be odd, or odd where even.
+pub const WRONG_SUM: u32 = 12;
+
 // All of them, from 1 on. The contract holds these constants to the definitions, so that neither can be changed alone.
-pub fn numbers() -> [u32; 9]
+pub fn numbers() -> [u32; 12]
     ensures { λ r. ⌜ r ≡ numbers ⌝ }
 {
     [
@@ -39,10 +48,13 @@ pub fn numbers() -> [u32; 9]
         TOO_LARGE,
         NO_SCALE,
         TOO_FAR,
-        NO_WORD,
+        MIXED_PARITY,
         TOO_WIDE,
         OUT_OF_RANGE,
         NO_ROOM,
         NO_PAGE,
+        NO_CODEWORD,
+        OUTSIDE,
+        WRONG_SUM,
     ]
 }

@@ -2,17 +2,19 @@
 use mathlib.Core.Path.{_≡_, refl, ap, ap₂, sym, subst, _∙_}
 use mathlib.Core.Bool.{Bool, true, false, not}
 use mathlib.Core.List.{List}
-use Prim.Native.Nat.{ℕ, _+_, _*_, _%_, _<_, _≤_}
+use Prim.Native.Nat.{ℕ, zero, suc, _+_, _*_, _%_, _<_, _≤_}
 use native.Mathlib.Omega.{arith}
 use lib.Dec.{T}
 use lib.IntN.{ℤ, pos}
 use lib.ListN.{length, getD, take, drop, length-map}
 use Rattle.laws.specs.Laws.Tests.{true-is}
 use Rattle.laws.specs.Laws.Whole.{mod2-lt}
+use Rattle.laws.specs.Words.{modZ}
+use Rattle.refusal.specs.Refusal.{mixedParity, noCodeword, outside, wrongSum}
 use Rattle.word.specs.Word.{Narrow, wordOf}
-use Rattle.rank.specs.Coord.{parityOf, rankOf}
+use Rattle.rank.specs.Coord.{rankOf}
 use Rattle.rank.specs.Vector.{class, inMiddle}
-use Rattle.rank.specs.Section.{uniform, bitsOf, ranksOf}
+use Rattle.rank.specs.Section.{uniform, bitsOf, ranksOf, kSum}
 use Rattle.rank.specs.Answers.{markOf, marksOf}
 use Rattle.rank.specs.Laws.Lookup.{marks-are, marks-near}
 use Rattle.rank.specs.Laws.Vector.{class-ranks}
@@ -20,17 +22,16 @@ use Rattle.rows.specs.Table.{classIndexOf, middleSeat, mixedIndexOf, middleRow}
 use Rattle.rows.specs.Laws.Rule.{row-in, row-class}
 use Rattle.rows.specs.Laws.Places.{number-class}
 use Rattle.rows.specs.Laws.Middle.{middle-row-in, middle-lt, middle-row-class}
-use Rattle.rows.specs.Answers.{class-index-out, class-index-back, mixed-index-back}
+use Rattle.rows.specs.Answers.{class-index-in, class-index-out, class-index-back, mixed-index-in, mixed-index-back}
 use Rattle.rows.specs.declared.Seated.{Seated}
 use Rattle.rows.specs.declared.Seated.the-variants.{At, Nothing}
 use Rattle.trellis.specs.Trellis.{labelOf}
-use Rattle.tetra.specs.Lattice.{trio, Codeword, section, sectionRanks, inOwnClass, HasWord}
-use Rattle.tetra.specs.Encode.{refused, parityAt, labelFor, fieldsBy, fieldsFor, encodeOf}
+use Rattle.tetra.specs.Lattice.{trio, section, sectionRanks, inOwnClass, inBound, HasWord}
+use Rattle.tetra.specs.Encode.{refusedWith, acceptedWith, parityAt, labelFor, fieldsBy, fieldsFor, encodeOf}
+use Rattle.tetra.specs.Why.{OfParity, InCode, Inside, has-word, mixed-parity, no-codeword, outside-bound, wrong-sum}
 use Rattle.tetra.specs.Laws.Orders.{at-uniform, uniform-at, parity-trio}
-use Rattle.tetra.specs.Laws.Word.{section-size, section-length, has-encodable, label-code, sum-classes}
-use Rattle.tetra.specs.Laws.Word.{row0, row1, row2, label-lt, third-owes, fields-narrow}
-use Rattle.tetra.specs.Demand2.{encode-in, refuses}
-use Rattle.tetra.specs.declared.Encoded.{Encoded}
+use Rattle.tetra.specs.Laws.Word.{section-size, section-length, code-label, label-code, sum-classes, fields-narrow}
+use Rattle.tetra.specs.Laws.Reason.{answered}
 
 -- ---- a row looked up by its marks is found where its ranks are: what meets a bound has no rank above 4
 marks-seat : (u : List ℤ) → length u ≡ 8 → classIndexOf (marksOf u) ≡ classIndexOf (ranksOf u)
@@ -87,91 +88,115 @@ module _ (y : List ℤ) (size : length y ≡ 24) where
     unfolding mixedIndexOf
     middle-read em er = er ∙ ap middleSeat (seat-read 1 (omega arith) em refl)
 
-  -- ---- the tests that fail
-  pub no-parity : {p : ℕ} {b : Bool} → p ≡ parityAt y → b ≡ uniform p y → not b ≡ true → refused ≡ encodeOf y
+  -- ---- the tests that pass: one parity, and a codeword
+  pub parity-read : {p : ℕ} {b : Bool} → b ≡ uniform p y → not b ≡ false → OfParity y p
+  parity-read {p} {b} eb q i h = uniform-at p y (true-is _ (sym eb ∙ not-not b q)) i (omega arith)
+
+  pub code-read : {x : ℕ} → x ≡ labelFor y → x < 4096 → InCode y
+  code-read ex lx = label-code (bitsOf (trio y)) (subst (λ (n : ℕ). n < 4096) ex lx)
+
+  -- ---- each test that fails is the reason, where those before it pass
+  pub no-parity : {p : ℕ} {b : Bool} → p ≡ parityAt y → b ≡ uniform p y → not b ≡ true → refusedWith mixedParity 0 ≡ encodeOf y
   no-parity {p} {b} ep eb q =
-      sym (refuses y size (λ h. subst T (ap (λ (n : ℕ). uniform n y) (sym ep) ∙ sym eb ∙ not-not b q) (point-uniform h)))
-    where
-      point-uniform : HasWord y → T (uniform (parityAt y) y)
-      point-uniform h =
-          at-uniform (parityAt y) y
-          (λ k l. h .point .one-parity k (omega arith) ∙ sym (h .point .one-parity 0 (omega arith)))
+      sym (answered y size
+      (mixed-parity
+      (λ n o.
+      subst T (sym eb ∙ not-not b q) (at-uniform p y (λ k l. o k (omega arith) ∙ sym (o 0 (omega arith)) ∙ sym ep)))))
 
-  pub no-code : {x : ℕ} → x ≡ labelFor y → 4096 ≤ x → refused ≡ encodeOf y
-  no-code e l = sym (refuses y size (λ h. omega (arith, label-lt y h)))
+  module _ {p : ℕ} (o : OfParity y p) where
+    pub no-code : {x : ℕ} → x ≡ labelFor y → 4096 ≤ x → refusedWith noCodeword 0 ≡ encodeOf y
+    no-code e l = sym (answered y size (no-codeword p o (λ c. omega (arith, code-label (bitsOf (trio y)) c))))
 
-  pub no-first : {r : Seated} → r ≡ classIndexOf (sectionRanks y 0) → r ≡ Nothing → refused ≡ encodeOf y
-  no-first e q = sym (refuses y size (λ h. not-both (sym e ∙ q) (row0 y h .3)))
+    module _ (c : InCode y) where
+      pub no-first : {r : Seated} → r ≡ classIndexOf (sectionRanks y 0) → r ≡ Nothing → refusedWith outside 1 ≡ encodeOf y
+      unfolding inBound
+      no-first e q =
+          sym (answered y size
+          (outside-bound p 0 o c (omega arith) (λ t l. absurd (omega arith))
+          (λ i. not-both (sym e ∙ q) (class-index-in (sectionRanks y 0) (section-length y 0 (omega arith)) i .3))))
 
-  pub no-second : {r : Seated} → r ≡ mixedIndexOf (sectionRanks y 1) → r ≡ Nothing → refused ≡ encodeOf y
-  no-second e q = sym (refuses y size (λ h. not-both (sym e ∙ q) (row1 y h .3)))
+      module _ {r i1 : ℕ} (s0 : classIndexOf (sectionRanks y 0) ≡ At r i1) where
+        first : T (inOwnClass (sectionRanks y 0)) × (class (sectionRanks y 0) ≡ r)
+        first = own-seat (sectionRanks y 0) (section-length y 0 (omega arith)) s0
 
-  pub no-third : {r : Seated} → r ≡ classIndexOf (sectionRanks y 2) → r ≡ Nothing → refused ≡ encodeOf y
-  no-third e q = sym (refuses y size (λ h. not-both (sym e ∙ q) (row2 y h .3)))
+        pub no-second : {s : Seated} → s ≡ mixedIndexOf (sectionRanks y 1) → s ≡ Nothing → refusedWith outside 2 ≡ encodeOf y
+        unfolding inBound
+        no-second e q =
+            sym (answered y size
+            (outside-bound p 1 o c (omega arith) below
+            (λ i. not-both (sym e ∙ q) (mixed-index-in (sectionRanks y 1) (section-length y 1 (omega arith)) i .3))))
+          where
+            below : (t : ℕ) → t < 1 → Inside y t
+            below zero l = first .0
+            below (suc t) l = absurd (omega arith)
 
-  -- ---- three seats found
-  module _ {p r i1 d i2 r3 i3 : ℕ} (ep : p ≡ parityAt y) (s0 : classIndexOf (sectionRanks y 0) ≡ At r i1)
-      (s1 : mixedIndexOf (sectionRanks y 1) ≡ At d i2) (s2 : classIndexOf (sectionRanks y 2) ≡ At r3 i3) where
-    first : T (inOwnClass (sectionRanks y 0)) × (class (sectionRanks y 0) ≡ r)
-    first = own-seat (sectionRanks y 0) (section-length y 0 (omega arith)) s0
+        module _ {d i2 : ℕ} (s1 : mixedIndexOf (sectionRanks y 1) ≡ At d i2) where
+          second : T (inMiddle (sectionRanks y 1)) × (class (sectionRanks y 1) ≡ d)
+          second = middle-seat (sectionRanks y 1) (section-length y 1 (omega arith)) s1
 
-    second : T (inMiddle (sectionRanks y 1)) × (class (sectionRanks y 1) ≡ d)
-    second = middle-seat (sectionRanks y 1) (section-length y 1 (omega arith)) s1
+          pub no-third : {s : Seated} → s ≡ classIndexOf (sectionRanks y 2) → s ≡ Nothing → refusedWith outside 3 ≡ encodeOf y
+          unfolding inBound
+          no-third e q =
+              sym (answered y size
+              (outside-bound p 2 o c (omega arith) below
+              (λ i. not-both (sym e ∙ q) (class-index-in (sectionRanks y 2) (section-length y 2 (omega arith)) i .3))))
+            where
+              below : (t : ℕ) → t < 2 → Inside y t
+              below zero l = first .0
+              below (suc zero) l = second .0
+              below (suc (suc t)) l = absurd (omega arith)
 
-    third : T (inOwnClass (sectionRanks y 2)) × (class (sectionRanks y 2) ≡ r3)
-    third = own-seat (sectionRanks y 2) (section-length y 2 (omega arith)) s2
+          -- ---- three seats found
+          module _ {r3 i3 : ℕ} (s2 : classIndexOf (sectionRanks y 2) ≡ At r3 i3) where
+            third : T (inOwnClass (sectionRanks y 2)) × (class (sectionRanks y 2) ≡ r3)
+            third = own-seat (sectionRanks y 2) (section-length y 2 (omega arith)) s2
 
-    pub classes-lt : (r < 2) × (d < 2)
-    classes-lt = (omega (arith, first .1), omega (arith, second .1))
+            inside : (t : ℕ) → t < 3 → Inside y t
+            unfolding inBound
+            inside zero l = first .0
+            inside (suc zero) l = second .0
+            inside (suc (suc zero)) l = third .0
+            inside (suc (suc (suc t))) l = absurd (omega arith)
 
-    -- the sum of k is wrong
-    pub no-sum : (r3 ≡ (p + r + d) % 2 → ⊥) → refused ≡ encodeOf y
-    no-sum n =
-        sym (refuses y size
-        (λ h. n (sym (third .1) ∙ sym (third-owes y h) ∙ ap₂ (λ (a b : ℕ). (parityAt y + a + b) % 2) (first .1) (second .1)
-        ∙ ap (λ (q : ℕ). (q + r + d) % 2) (sym ep))))
+            pub classes-lt : (r < 2) × (d < 2) × (r3 < 2)
+            classes-lt = (omega (arith, first .1), omega (arith, second .1), omega (arith, third .1))
 
-    -- it is right
-    module _ {x : ℕ} {b : Bool} (eb : b ≡ uniform p y) (yes-parity : not b ≡ false) (ex : x ≡ labelFor y) (lx : x < 4096)
-        (owes : r3 ≡ (p + r + d) % 2) where
-      one-parity : (i : ℕ) → i < 24 → parityOf (getD y i (pos 0)) ≡ p
-      one-parity i h = uniform-at p y (true-is _ (sym eb ∙ not-not b yes-parity)) i (omega arith)
+            p-lt : p < 2
+            p-lt = subst (λ (n : ℕ). n < 2) (o 0 (omega arith)) (mod2-lt (getD y 0 (pos 0)))
 
-      codeword : Codeword (bitsOf (trio y))
-      codeword = label-code (bitsOf (trio y)) (subst (λ (n : ℕ). n < 4096) ex lx)
+            sum-read : modZ (kSum y) 2 ≡ (r + d + r3) % 2
+            sum-read =
+                sum-classes p y size (parity-trio p y o) c (first .0) (second .0) (third .0)
+                ∙ ap₂ (λ (a e : ℕ). (a + e + class (sectionRanks y 2)) % 2) (first .1) (second .1)
+                ∙ ap (λ (a : ℕ). (r + d + a) % 2) (third .1)
 
-      has-word : HasWord y
-      has-word =
-          record {
-            point =
-                record {
-                  size = size;
-                  p = p;
-                  one-parity = one-parity;
-                  codeword = codeword;
-                  sum-of-k =
-                      sum-classes p y size (parity-trio p y one-parity) codeword (first .0) (second .0) (third .0)
-                      ∙ ap₂ (λ (a c : ℕ). (a + c + class (sectionRanks y 2)) % 2) (first .1) (second .1)
-                      ∙ ap (λ (a : ℕ). (r + d + a) % 2) (third .1) ∙ paid;
-                };
-            first = first .0;
-            second = second .0;
-            third = third .0;
-          }
-        where
-          p-lt : p < 2
-          p-lt = subst (λ (n : ℕ). n < 2) (sym ep) (mod2-lt (getD y 0 (pos 0)))
+            -- the sum of k is wrong
+            pub no-sum : (r3 ≡ (p + r + d) % 2 → ⊥) → refusedWith wrongSum 0 ≡ encodeOf y
+            no-sum n = sym (answered y size (wrong-sum p o c inside (λ e. n (owed (sym sum-read ∙ e)))))
+              where
+                owed : (r + d + r3) % 2 ≡ p → r3 ≡ (p + r + d) % 2
+                owed e = omega (arith, classes-lt .2)
 
-          paid : (r + d + r3) % 2 ≡ p
-          paid = omega (arith, p-lt)
+            -- it is right
+            module _ {x : ℕ} (ex : x ≡ labelFor y) (owes : r3 ≡ (p + r + d) % 2) where
+              point-has : HasWord y
+              point-has =
+                  record {
+                    point = record { size = size; p = p; one-parity = o; codeword = c; sum-of-k = sum-read ∙ paid };
+                    first = first .0;
+                    second = second .0;
+                    third = third .0;
+                  }
+                where
+                  paid : (r + d + r3) % 2 ≡ p
+                  paid = omega (arith, p-lt)
 
-      fields-read : fieldsBy p x r i1 i2 i3 ≡ fieldsFor y
-      unfolding fieldsFor
-      fields-read = rw (s0, s1, s2, ep, ex)
+              fields-read : fieldsBy p x r i1 i2 i3 ≡ fieldsFor y
+              unfolding fieldsFor
+              fields-read = rw (s0, s1, s2, sym (o 0 (omega arith)), ex)
 
-      pub read-narrow : Narrow (fieldsBy p x r i1 i2 i3)
-      read-narrow = subst Narrow (sym fields-read) (fields-narrow y has-word)
+              pub read-narrow : Narrow (fieldsBy p x r i1 i2 i3)
+              read-narrow = subst Narrow (sym fields-read) (fields-narrow y point-has)
 
-      pub read-word : {w : ℕ} → w ≡ wordOf (fieldsBy p x r i1 i2 i3) → _≡_ {A = Encoded} (record { number = 0; word = w }) (encodeOf y)
-      read-word ew =
-          ap (λ (n : ℕ). record { number = 0; word = n }) (ew ∙ ap wordOf fields-read) ∙ sym (encode-in y (has-encodable y has-word))
+              pub read-word : {w : ℕ} → w ≡ wordOf (fieldsBy p x r i1 i2 i3) → acceptedWith w ≡ encodeOf y
+              read-word ew = ap acceptedWith (ew ∙ ap wordOf fields-read) ∙ sym (answered y size (has-word point-has))

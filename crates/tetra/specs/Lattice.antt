@@ -2,10 +2,10 @@
 -- stands behind a definition of this file: codewords come from the twelve columns, ranks by counting, bounds from their cost and cut.
 -- Assumes nothing.
 use mathlib.Core.Path.{_≡_}
-use mathlib.Core.Bool.{Bool}
+use mathlib.Core.Bool.{Bool, cond}
 use mathlib.Core.List.{List, map}
 use Prim.Native.Nat.{ℕ, _*_, _<_}
-use lib.Dec.{T}
+use lib.Dec.{T, eqb}
 use lib.IntN.{ℤ, pos}
 use lib.ListN.{length, getD, take, drop}
 use Rattle.laws.specs.Words.{modZ}
@@ -43,6 +43,10 @@ sectionRanks y s = ranksOf (section y s)
 -- the ranks meet the bound of their own class
 abbrev pub inOwnClass : List ℕ → Bool
 inOwnClass v = inClass (class v) v
+
+-- section s meets its bound: the second that of the middle, the others that of their own class
+unfoldable pub inBound : List ℤ → ℕ → Bool
+inBound y s = cond (eqb s 1) (inMiddle (sectionRanks y s)) (inOwnClass (sectionRanks y s))
 
 -- a lattice point has a word exactly when, besides, its first and third sections meet their own class's bound and its second the middle's
 pub record HasWord (y : List ℤ) : Type 0 where

@@ -1,6 +1,6 @@
--- P: the points to hit exactly, P1 to P12 of document 01 together. Assumes nothing.
+-- P: the points to hit exactly, P1 to P12 of document 01 together; why P8 to P12 have no word is request 2026-02's. Assumes nothing.
 use mathlib.Core.Path.{_≡_, refl, ap, sym, subst, _∙_}
-use mathlib.Core.Bool.{Bool, true, false, cond, _&&_}
+use mathlib.Core.Bool.{Bool, true, false, cond}
 use mathlib.Core.List.{List, [], _∷_}
 use Prim.Native.Nat.{ℕ, _^_}
 use borrow.Author.Tests.{lt-ltb}
@@ -18,9 +18,9 @@ use Rattle.trellis.specs.Laws.Code.{backColumns, back-at, label-low}
 use Rattle.trellis.specs.Trio.{order, places}
 use Rattle.trellis.specs.Trellis.{labelOf}
 use Rattle.trellis.specs.Laws.Back.{label-none}
-use Rattle.tetra.specs.Lattice.{trio}
+use Rattle.tetra.specs.Lattice.{trio, inBound}
 use Rattle.tetra.specs.Tetra.{codewordAt, thirdClass, ranksAt, trioPoint, natural, trioPointOf, pointOf}
-use Rattle.tetra.specs.Encode.{refusedWith, refused, oneParity, inCode, inBounds, rightSum, encodable, fieldsFor, encodeOf}
+use Rattle.tetra.specs.Encode.{refusedWith, oneParity, inCode, rightSum, encodeOf}
 use Rattle.tetra.specs.Laws.Word.{code-label}
 
 -- ---- the tests, computed: the way back by columns tells a codeword with no walk over the 4,096
@@ -42,11 +42,9 @@ code-by c = go (eqb (codewordOf columns (codewordOf backColumns c)) c) refl
         (eq→eqb (codewordOf columns (codewordOf backColumns c)) c
         (ap (codewordOf columns) (ap (codewordOf backColumns) (sym q) ∙ back-at x) ∙ label-low x ∙ q))))
 
-refused-by : (y : List ℤ) → (oneParity y && (byColumns (bitsOf (trio y)) && (inBounds y && rightSum y))) ≡ false → encodeOf y ≡ refused
-unfolding encodeOf encodable inCode
-refused-by y e =
-    ap (λ (b : Bool). cond b (record { number = 0; word = word.wordOf (fieldsFor y) }) refused)
-    (ap (λ (b : Bool). oneParity y && (b && (inBounds y && rightSum y))) (code-by (bitsOf (trio y))) ∙ e)
+code-is : (y : List ℤ) → inCode y ≡ byColumns (bitsOf (trio y))
+unfolding inCode
+code-is y = code-by (bitsOf (trio y))
 
 -- ---- points written down
 -- a at the coordinates listed, and what f has at the others
@@ -69,13 +67,13 @@ pub P :
     × (pointOf 0x3800 ≡ point (at (pos 4) (0 ∷ 1 ∷ []) (all (pos 0))))
     × (pointOf 0x4d8000000 ≡ point (at (pos 4) (19 ∷ 23 ∷ []) (all (pos 0))))
     × (pointOf (2 ^ 47) ≡ pointOf 0)
-    × (encodeOf (point (all (pos 1))) ≡ refusedWith 5)
-    × (encodeOf (point (at (pos 4) (0 ∷ []) (all (pos 0)))) ≡ refusedWith 5)
-    × (encodeOf (point (at (pos 2) (0 ∷ []) (all (pos 0)))) ≡ refusedWith 5)
-    × (encodeOf (point (at (pos 1) (0 ∷ []) (all (pos 0)))) ≡ refusedWith 5)
-    × (encodeOf (point (at (pos 12) (0 ∷ []) (at (pos 4) (1 ∷ []) (all (pos 0))))) ≡ refusedWith 5)
+    × (encodeOf (point (all (pos 1))) ≡ refusedWith 12 0)
+    × (encodeOf (point (at (pos 4) (0 ∷ []) (all (pos 0)))) ≡ refusedWith 12 0)
+    × (encodeOf (point (at (pos 2) (0 ∷ []) (all (pos 0)))) ≡ refusedWith 10 0)
+    × (encodeOf (point (at (pos 1) (0 ∷ []) (all (pos 0)))) ≡ refusedWith 5 0)
+    × (encodeOf (point (at (pos 12) (0 ∷ []) (at (pos 4) (1 ∷ []) (all (pos 0))))) ≡ refusedWith 11 1)
 unfolding tab word.fieldAt valOf rankOf pointAt uniform bitsOf kSum rows rowRanks middleClass middleRow columns backColumns order places
-    trio codewordAt thirdClass ranksAt trioPoint natural trioPointOf pointOf oneParity inBounds rightSum byColumns
+    trio codewordAt thirdClass ranksAt trioPoint natural trioPointOf pointOf oneParity inBound rightSum encodeOf byColumns
 P = (
   refl,
   refl,
@@ -84,9 +82,24 @@ P = (
   refl,
   refl,
   refl,
-  refused-by (point (all (pos 1))) refl,
-  refused-by (point (at (pos 4) (0 ∷ []) (all (pos 0)))) refl,
-  refused-by (point (at (pos 2) (0 ∷ []) (all (pos 0)))) refl,
-  refused-by (point (at (pos 1) (0 ∷ []) (all (pos 0)))) refl,
-  refused-by (point (at (pos 12) (0 ∷ []) (at (pos 4) (1 ∷ []) (all (pos 0))))) refl,
+  rw (code-is (point (all (pos 1)))),
+  rw (code-is (point (at (pos 4) (0 ∷ []) (all (pos 0))))),
+  rw (code-is (point (at (pos 2) (0 ∷ []) (all (pos 0))))),
+  refl,
+  rw (code-is (point (at (pos 12) (0 ∷ []) (at (pos 4) (1 ∷ []) (all (pos 0)))))),
+)
+
+-- each reason why a point has no word is that of some point: where P has none, in the second section and in the third; and where two hold,
+-- the first is told: of a wrong sum of k with a section outside, and of bits that are no codeword with one
+pub reasons :
+    (encodeOf (point (at (pos 8) (6 ∷ []) (at (pos 4) (16 ∷ 17 ∷ []) (all (pos 0))))) ≡ refusedWith 11 2)
+    × (encodeOf (point (at (pos 13) (23 ∷ []) (all (pos 1)))) ≡ refusedWith 11 3)
+    × (encodeOf (point (at (pos 12) (0 ∷ []) (all (pos 0)))) ≡ refusedWith 11 1)
+    × (encodeOf (point (at (pos 2) (0 ∷ []) (at (pos 100) (1 ∷ []) (all (pos 0))))) ≡ refusedWith 10 0)
+unfolding tab rankOf uniform bitsOf kSum columns backColumns order trio oneParity inBound rightSum encodeOf byColumns
+reasons = (
+  rw (code-is (point (at (pos 8) (6 ∷ []) (at (pos 4) (16 ∷ 17 ∷ []) (all (pos 0)))))),
+  rw (code-is (point (at (pos 13) (23 ∷ []) (all (pos 1))))),
+  rw (code-is (point (at (pos 12) (0 ∷ []) (all (pos 0))))),
+  rw (code-is (point (at (pos 2) (0 ∷ []) (at (pos 100) (1 ∷ []) (all (pos 0)))))),
 )

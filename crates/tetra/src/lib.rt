@@ -13,7 +13,7 @@ ghost use Rattle.rank.specs.Answers.{marksOf};
 ghost use Rattle.rows.specs.Table.{rowRanks, middleRow};
 ghost use Rattle.tetra.specs.Lattice.{trio};
 ghost use Rattle.tetra.specs.Tetra.{trioPoint, trioPointOf, natural, pointOf, patternsOf};
-ghost use Rattle.tetra.specs.Encode.{refused, fieldsBy, encodeOf};
+ghost use Rattle.tetra.specs.Encode.{refusedWith, fieldsBy, encodeOf};
 ghost use Rattle.tetra.specs.Block.{blockAt};
 
 // The tables, read by a place, and the lookups of rank vectors: the accessors of the Rust's `Tetra`.
@@ -32,9 +32,11 @@ pub struct Bytes {
     pub c3: u8,
 }
 
-// What `encode` answers: number 0 and the word, or number 5 and word 0.
+// What `encode` answers: number 0 and the word; or the number of the reason why there is none, and word 0. The section, 1 to 3, is the lowest one
+// outside its bound where that is the reason, and else 0.
 pub struct Encoded {
     pub number: u32,
+    pub section: u32,
     pub word: u64,
 }
 
@@ -164,11 +166,12 @@ pub fn patterns(word: u64) -> Bytes
 }
 
 // ---- from a point to its word
-fn refused() -> Encoded
-    ensures { λ r. ⌜ r ≡ refused ⌝ }
+fn refused(number: u32, section: u32) -> Encoded
+    ensures { λ r. ⌜ r ≡ refusedWith number section ⌝ }
 {
     Encoded {
-        number: refusal::NO_WORD,
+        number,
+        section,
         word: 0,
     }
 }
@@ -243,46 +246,51 @@ fn word_by(p: u32, x: u32, r: u32, i1: u16, i2: u16, i3: u16) -> u64
     j.word
 }
 
-// The word that decodes to a point given in natural order, with gain 0; or the refusal. The four tests stand in this order: one parity, a
-// codeword of bits, three sections within their bounds, and the sum of k, which shows in the third section's class.
+// The word that decodes to a point given in natural order, with gain 0; or why there is none. The tests stand in the order in which the reasons
+// are told: one parity, a codeword of bits, three sections within their bounds, and the sum of k. The third section is looked up in its own
+// class; that it is not the class which the other two leave to it shows only then, and is the wrong sum.
 pub fn encode(point: [i32; 24]) -> Encoded
     ensures { λ r. ⌜ r ≡ encodeOf point ⌝ }
 {
     let p = rank::parity(point[0]);
     if !one_parity(point, p) {
-        return refused();
+        return refused(refusal::MIXED_PARITY, 0);
     }
     let t = to_trio(point);
     let x = trellis::label_of(bits(t));
     if 4096 <= x {
-        return refused();
+        return refused(refusal::NO_CODEWORD, 0);
     }
     let rows::Seated::At {
         class: r,
         index: i1,
     } = rows::class_index(marks(t, 0))
     else {
-        return refused();
+        return refused(refusal::OUTSIDE, 1);
     };
     let rows::Seated::At {
         class: d,
         index: i2,
     } = rows::mixed_index(marks(t, 1))
     else {
-        return refused();
+        return refused(refusal::OUTSIDE, 2);
     };
     let rows::Seated::At {
         class: r3,
         index: i3,
     } = rows::class_index(marks(t, 2))
     else {
-        return refused();
+        return refused(refusal::OUTSIDE, 3);
     };
     if r3 != (p + r + d) % 2 {
-        return refused();
+        return refused(refusal::WRONG_SUM, 0);
     }
     let word = word_by(p, x, r, i1, i2, i3);
-    Encoded { number: 0, word }
+    Encoded {
+        number: 0,
+        section: 0,
+        word,
+    }
 }
 
 // ---- a block of a longer list

@@ -55,6 +55,10 @@ pointNumber y = roomFirst (short y) (wordFor y .number)
 abbrev pub pointWord : List ℤ → ℕ → ℕ
 pointWord y old = left (pointNumber y) (wordFor y .word) old
 
+-- the section, from 1 to 3, that is outside its bound where the number is 11, and else 0, as for a slice that is too short
+abbrev pub outsideSection : List ℤ → ℕ
+outsideSection y = cond (short y) 0 (wordFor y .section)
+
 -- ---- the 24 samples at a slice's start to their code: at a scale, at the scale that they give, and there at the setting 8
 abbrev pub atScale : List Float → Float → ℕ → Code
 atScale x s n = encodeAtScale (take 24 x) s n

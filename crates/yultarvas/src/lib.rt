@@ -11,7 +11,7 @@ ghost use mathlib.Core.Path.{_≡_};
 ghost use lib.ListN.{length};
 ghost use Rattle.page.specs.Answer.{numIn, wordsIn};
 ghost use Rattle.page.specs.Reader.{readingOf};
-ghost use Rattle.yultarvas.specs.Calls.{left, decodeNumber, decodePoint, pointNumber, pointWord};
+ghost use Rattle.yultarvas.specs.Calls.{left, decodeNumber, decodePoint, pointNumber, pointWord, outsideSection};
 ghost use Rattle.yultarvas.specs.Calls.{atScale, atSetting, atOwnScale, codeNumber, leftPoint};
 ghost use Rattle.yultarvas.specs.Calls.{scalesFor, scalesNumber, scoreFor, scoreNumber};
 ghost use Rattle.yultarvas.specs.Calls.{pageNumber, pageBlocks, pageCells, wordsNumber, wordsOver};
@@ -34,7 +34,8 @@ pub extern "C" fn yultarvas_decode(word: u64, point: &mut [i32]) -> u32
     0
 }
 
-// The word of the point in the first 24 places of `point`. Refused with 5 where no word decodes to it.
+// The word of the point in the first 24 places of `point`. Refused where no word decodes to it, by the first of these that holds: 5, 10, 11,
+// 12.
 #[no_mangle]
 pub extern "C" fn yultarvas_encode_point(point: &[i32], word: &mut u64) -> u32
     ensures { λ r. ⌜ r ≡ pointNumber (now (point .entry)) ⌝ }
@@ -50,6 +51,19 @@ pub extern "C" fn yultarvas_encode_point(point: &[i32], word: &mut u64) -> u32
     }
     *word = e.word;
     0
+}
+
+// The section that is outside its bound, where the point is refused with 11: the lowest one, from 1 to 3. Else 0, as for a slice that is too
+// short. It is a call of its own, since one that refuses writes nothing that was lent.
+#[no_mangle]
+pub extern "C" fn yultarvas_outside(point: &[i32]) -> u32
+    ensures { λ r. ⌜ r ≡ outsideSection (now (point .entry)) ⌝ }
+{
+    if point.len() < 24 {
+        return 0;
+    }
+    let e = tetra::encode(slices::point_of(point));
+    e.section
 }
 
 // ---- samples to codes

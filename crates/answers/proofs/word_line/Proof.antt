@@ -11,12 +11,12 @@ use Rattle.answers.proofs.Pieces.{line-none, line-all}
 use Rattle.answers.proofs.word_line.Statement.{statement}
 use Rattle.answers.proofs.word_line.Tie as tie
 
-refused-requires : tie.Need-refused-requires
-refused-requires c κs = search needs
+refused-point-requires : tie.Need-refused-point-requires
+refused-point-requires c κs = search needs
 
 returns : tie.Need-returns
 unfolding encodedLine
-returns c = rw (ne-eqb _ _ (c .before .if1 .taken)) (c .refused .ensures)
+returns c = rw (ne-eqb _ _ (c .before .if1 .taken)) (c .refused-point .ensures)
 
 slice-aggregate-put : tie.Need-slice-aggregate-put
 slice-aggregate-put c = search needs
@@ -59,7 +59,7 @@ pub word-line-spec : {M : Type 1} → statement M
 word-line-spec =
     tie.close
     (tie.spec
-    refused-requires
+    refused-point-requires
     returns
     slice-aggregate-put
     slice-aggregate-put-2

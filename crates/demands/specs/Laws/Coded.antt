@@ -1,5 +1,5 @@
 -- Every code of an accepted call is coded, over any parities for which the point of every accepted target has a word. Assumes nothing.
-use mathlib.Core.Path.{_≡_, refl, sym, ap, _∙_, subst}
+use mathlib.Core.Path.{_≡_, refl, sym, ap, ap₂, _∙_, subst}
 use mathlib.Core.Bool.{Bool, true, false, cond}
 use mathlib.Core.List.{List}
 use Prim.Native.Nat.{ℕ, _^_, _<_}
@@ -12,6 +12,7 @@ use Rattle.tetra.specs.Lattice.{HasWord}
 use Rattle.tetra.specs.Encode.{encodeOf}
 use Rattle.tetra.specs.Demand2.{accepts, round-trip}
 use Rattle.tetra.specs.Points.{P}
+use Rattle.tetra.specs.declared.Encoded.{Encoded}
 use Rattle.float.specs.Calls.{quotientsOf}
 use Rattle.float.specs.Laws.Arrays.{quotients-length}
 use Rattle.score.specs.Samples.{AllFit, sampleNumber, scaleNumber}
@@ -37,7 +38,8 @@ code-of x w h =
       number = refl;
       small = a .small;
       back = a .back;
-      again = ap (λ (n : ℕ). record { number = n; word = encodeOf (pointFrom w) .word }) (a .number);
+      again =
+          ap₂ {C = Encoded} (λ n s. record { number = n; section = s; word = encodeOf (pointFrom w) .word }) (a .number) (a .section);
     }
 
 -- 24 zeros

@@ -1,6 +1,7 @@
--- `tetra::encode`: each test that fails shows that the point has no word, and all that pass that it has the one answered. Assumes nothing.
+-- `tetra::encode`: the test that fails is the reason why the point has no word, and where all pass it has the one answered. Assumes nothing.
 use mathlib.Core.Path.{_≡_, ap, sym, _∙_}
 use mathlib.Core.List.{List}
+use Prim.Native.Nat.{_<_}
 use native.Mathlib.Omega.{arith}
 use borrow.Author.Needs.{needs}
 use mir.Syntax.{w32}
@@ -13,8 +14,9 @@ use Rattle.rows.specs.declared.Seated.the-variants.{At}
 use Rattle.rows.specs.Table.{classIndexOf, mixedIndexOf}
 use Rattle.tetra.specs.Lattice.{sectionRanks}
 use Rattle.tetra.specs.Encode.{labelFor, parityAt}
-use Rattle.tetra.proofs.Encoding.{label-read, seat-read, middle-read, no-parity, no-code, no-first, no-second, no-third}
-use Rattle.tetra.proofs.Encoding.{classes-lt, no-sum, read-narrow, read-word}
+use Rattle.tetra.specs.Why.{OfParity, InCode}
+use Rattle.tetra.proofs.Encoding.{label-read, seat-read, middle-read, parity-read, code-read, no-parity, no-code, no-first, no-second}
+use Rattle.tetra.proofs.Encoding.{no-third, classes-lt, no-sum, read-narrow, read-word}
 use Rattle.tetra.proofs.encode.Statement.{statement}
 use Rattle.tetra.proofs.encode.Tie as tie
 
@@ -50,6 +52,14 @@ point c = start c .args .t1
 label-at : (c : tie.After-label-of) → c .label-of .result ≡ labelFor (point c)
 label-at c = label-read (point c) (size (start c)) (ordered c .to-trio .ensures) (c .before .bits .ensures) (c .label-of .ensures)
 
+of-parity : (c : tie.After-label-of) → OfParity (point c) (ordered c .before .before .before .parity .result)
+of-parity c =
+    let o = ordered c .before in
+    parity-read (point c) (size (start c)) (o .before .one-parity .ensures) (o .if1 .left)
+
+in-code : (c : tie.After-class-index) → InCode (point (labelled c))
+in-code c = let l = labelled c in code-read (point l) (size (start l)) (label-at l) (c .before .before .if2 .left)
+
 seat0 : (c : tie.After-class-index) → c .class-index .result ≡ classIndexOf (sectionRanks (point (labelled c)) 0)
 seat0 c =
     let l = labelled c in
@@ -65,7 +75,16 @@ seat2 c =
     let l = labelled (before2 (before3 c)) in
     seat-read (point l) (size (start l)) (ordered l .to-trio .ensures) 2 (omega arith) (c .before .marks3 .ensures) (c .class-index2 .ensures)
 
--- all three seats are found
+-- the seats that are found
+found-first : (c : tie.After-mixed-index) → classIndexOf (sectionRanks (point (labelled (before2 c))) 0)
+    ≡ At (c .before .before .before .r .given .0 .0) (c .before .before .before .r .given .0 .1 .0)
+found-first c = sym (seat0 (before2 c)) ∙ c .before .before .before .r .given .1
+
+found-second : (c : tie.After-class-index2) → mixedIndexOf (sectionRanks (point (labelled (before2 (before3 c)))) 1)
+    ≡ At (c .before .before .before .d .given .0 .0) (c .before .before .before .d .given .0 .1 .0)
+found-second c = sym (seat1 (before3 c)) ∙ c .before .before .before .d .given .1
+
+-- all three
 module _ (c : tie.After-known-told3) where
   abbrev k3 : tie.After-class-index2
   k3 = c .before .before .before
@@ -79,19 +98,11 @@ module _ (c : tie.After-known-told3) where
   abbrev l : tie.After-label-of
   l = labelled k1
 
-  found0 : classIndexOf (sectionRanks (point l) 0)
-      ≡ At (k2 .before .before .before .r .given .0 .0) (k2 .before .before .before .r .given .0 .1 .0)
-  found0 = sym (seat0 k1) ∙ k2 .before .before .before .r .given .1
-
-  found1 : mixedIndexOf (sectionRanks (point l) 1)
-      ≡ At (k3 .before .before .before .d .given .0 .0) (k3 .before .before .before .d .given .0 .1 .0)
-  found1 = sym (seat1 k2) ∙ k3 .before .before .before .d .given .1
-
   found2 : classIndexOf (sectionRanks (point l) 2) ≡ At (c .before .r3 .given .0 .0) (c .before .r3 .given .0 .1 .0)
   found2 = sym (seat2 k3) ∙ c .before .r3 .given .1
 
-  parity-is : ordered l .before .before .before .parity .result ≡ parityAt (point l)
-  parity-is = parity-at (ordered l .before .before .before)
+  classes : (k2 .before .before .before .r .given .0 .0 < 2) × (k3 .before .before .before .d .given .0 .0 < 2) × (c .before .r3 .given .0 .0 < 2)
+  classes = classes-lt (point l) (size (start l)) (of-parity l) (in-code k1) (found-first k2) (found-second k3) found2
 
 array-copy-out-parity : tie.Need-array-copy-out-parity
 array-copy-out-parity c = search needs
@@ -126,7 +137,7 @@ refused-requires-2 c κs = search needs
 returns-2 : tie.Need-returns-2
 returns-2 c =
     let l = c .before .before in
-    c .refused2 .ensures ∙ no-code (point l) (size (start l)) (label-at l) (omega (arith, c .before .if2 .taken))
+    c .refused2 .ensures ∙ no-code (point l) (size (start l)) (of-parity l) (label-at l) (omega (arith, c .before .if2 .taken))
 
 marks-requires : tie.Need-marks-requires
 marks-requires c κs = search needs
@@ -147,7 +158,7 @@ returns-3 : tie.Need-returns-3
 returns-3 c =
     let k = c .before .before .before in
     let l = labelled k in
-    c .refused3 .ensures ∙ no-first (point l) (size (start l)) (seat0 k) (c .before .enum-told .given .1)
+    c .refused3 .ensures ∙ no-first (point l) (size (start l)) (of-parity l) (in-code k) (seat0 k) (c .before .enum-told .given .1)
 
 marks-requires-2 : tie.Need-marks-requires-2
 marks-requires-2 c κs = search needs
@@ -168,7 +179,7 @@ returns-4 : tie.Need-returns-4
 returns-4 c =
     let k = c .before .before .before in
     let l = labelled (before2 k) in
-    c .refused4 .ensures ∙ no-second (point l) (size (start l)) (seat1 k) (c .before .enum-told2 .given .1)
+    c .refused4 .ensures ∙ no-second (point l) (size (start l)) (of-parity l) (in-code (before2 k)) (found-first k) (seat1 k) (c .before .enum-told2 .given .1)
 
 marks-requires-3 : tie.Need-marks-requires-3
 marks-requires-3 c κs = search needs
@@ -189,17 +200,15 @@ returns-5 : tie.Need-returns-5
 returns-5 c =
     let k = c .before .before .before in
     let l = labelled (before2 (before3 k)) in
-    c .refused5 .ensures ∙ no-third (point l) (size (start l)) (seat2 k) (c .before .enum-told3 .given .1)
+    c .refused5 .ensures
+    ∙ no-third (point l) (size (start l)) (of-parity l) (in-code (before2 (before3 k))) (found-first (before3 k)) (found-second k) (seat2 k)
+    (c .before .enum-told3 .given .1)
 
 add-if3 : tie.Need-add-if3
-add-if3 c =
-    let q = classes-lt (point (l c)) (size (start (l c))) (parity-is c) (found0 c) (found1 c) (found2 c) in
-    omega (arith, q .0, ordered (l c) .before .before .before .parity .ensures .1)
+add-if3 c = omega (arith, classes c .0, ordered (l c) .before .before .before .parity .ensures .1)
 
 add-if3-2 : tie.Need-add-if3-2
-add-if3-2 c =
-    let q = classes-lt (point (l c)) (size (start (l c))) (parity-is c) (found0 c) (found1 c) (found2 c) in
-    omega (arith, q .0, q .1, ordered (l c) .before .before .before .parity .ensures .1)
+add-if3-2 c = omega (arith, classes c .0, classes c .1, ordered (l c) .before .before .before .parity .ensures .1)
 
 refused-requires-6 : tie.Need-refused-requires-6
 refused-requires-6 c κs = search needs
@@ -208,21 +217,20 @@ returns-6 : tie.Need-returns-6
 returns-6 c =
     let k = c .before .before in
     c .refused6 .ensures
-    ∙ no-sum (point (l k)) (size (start (l k))) (parity-is k) (found0 k) (found1 k) (found2 k) (λ e. omega (arith, c .before .if3 .taken))
+    ∙ no-sum (point (l k)) (size (start (l k))) (of-parity (l k)) (in-code (k1 k)) (found-first (k2 k)) (found-second (k3 k)) (found2 k)
+    (λ e. omega (arith, c .before .if3 .taken))
 
 word-by-requires : tie.Need-word-by-requires
 word-by-requires c κs =
     let k = c .before in
-    let o = ordered (l k) .before in
-    read-narrow (point (l k)) (size (start (l k))) (parity-is k) (found0 k) (found1 k) (found2 k) (o .before .one-parity .ensures)
-    (o .if1 .left) (label-at (l k)) (k1 k .before .before .if2 .left) (omega (arith, c .if3 .left))
+    read-narrow (point (l k)) (size (start (l k))) (of-parity (l k)) (in-code (k1 k)) (found-first (k2 k)) (found-second (k3 k)) (found2 k)
+    (label-at (l k)) (omega (arith, c .if3 .left))
 
 returns-7 : tie.Need-returns-7
 returns-7 c =
     let k = c .before .before in
-    let o = ordered (l k) .before in
-    read-word (point (l k)) (size (start (l k))) (parity-is k) (found0 k) (found1 k) (found2 k) (o .before .one-parity .ensures)
-    (o .if1 .left) (label-at (l k)) (k1 k .before .before .if2 .left) (omega (arith, c .before .if3 .left)) (c .word-by .ensures)
+    read-word (point (l k)) (size (start (l k))) (of-parity (l k)) (in-code (k1 k)) (found-first (k2 k)) (found-second (k3 k)) (found2 k)
+    (label-at (l k)) (omega (arith, c .before .if3 .left)) (c .word-by .ensures)
 
 pub encode-spec : {M : Type 1} → statement M
 encode-spec =

@@ -1,15 +1,13 @@
 -- The fields of a point that has a word: they fit, their point is the point, and those of a word's point are the word's. Assumes nothing.
 use mathlib.Core.Path.{_≡_, ap, ap₂, sym, subst, _∙_}
-use mathlib.Core.Bool.{_&&_}
 use mathlib.Core.List.{List, _++_}
 use Prim.Native.Nat.{ℕ, _+_, _*_, _%_, _<_}
 use native.Mathlib.Nat.{mod-lt, zero-lt-suc}
 use native.Mathlib.Omega.{arith}
-use lib.Dec.{T, ltb, eqb, ltb→lt, lt→ltb, eqb→eq}
+use lib.Dec.{T}
 use lib.IntN.{ℤ, pos}
 use lib.ListN.{length, getD, take, drop, length-map, length-drop, take-append-drop}
 use lib.Seq.{take-all, drop-drop, length-take-le}
-use Rattle.laws.specs.Laws.Tests.{and-in, split4, split3, eq→eqb}
 use Rattle.laws.specs.Words.{modZ}
 use Rattle.laws.specs.Laws.Whole.{mod2-lt}
 use Rattle.word.specs.Word.{Narrow, fieldsOf}
@@ -31,8 +29,8 @@ use Rattle.trellis.specs.Laws.Code.{label-low}
 use Rattle.trellis.specs.Laws.Back.{label-word, label-iff, label-at, label-parts, parts-label}
 use Rattle.tetra.specs.Lattice.{trio, Codeword, section, sectionRanks, inOwnClass, HasWord}
 use Rattle.tetra.specs.Tetra.{codewordAt, thirdClass, ranksAt, trioPoint, trioPointOf, pointOf}
-use Rattle.tetra.specs.Encode.{parityAt, oneParity, labelFor, inCode, inBounds, rightSum, encodable, fieldsBy, fieldsFor}
-use Rattle.tetra.specs.Laws.Orders.{trio-length, natural-length, trio-natural, parity-natural, parity-trio, uniform-at, at-uniform, k-order}
+use Rattle.tetra.specs.Encode.{parityAt, labelFor, fieldsBy, fieldsFor}
+use Rattle.tetra.specs.Laws.Orders.{trio-length, natural-length, trio-natural, parity-natural, parity-trio, k-order}
 use Rattle.tetra.specs.Laws.Point.{ranks-part, below-append, class-three, k-classes, third-lt, first-row, third-row}
 use Rattle.tetra.specs.Laws.Point.{point-size, point-parity, bits-are, point-codeword, point-sum, first-is, second-is, third-is}
 
@@ -69,11 +67,7 @@ sections-small y a b c =
     (below-append 8 u (v ++ w) (own-small u a)
     (below-append 8 v w (own-small v (middle-class (class v) v b)) (own-small w c)))
 
--- ---- the four tests say that a point has a word
-first-parity : (y : List ℤ) → T (oneParity y) → (i : ℕ) → i < length y → parityOf (getD y i (pos 0)) ≡ parityAt y
-unfolding oneParity
-first-parity y t i h = uniform-at (parityAt y) y t i h
-
+-- ---- a codeword is what has a label below 4096
 pub code-label : (c : ℕ) → Codeword c → labelOf c < 4096
 code-label c w =
     let h : w .label % 4096 < 4096 = mod-lt (w .label) (zero-lt-suc 4095) in
@@ -82,40 +76,6 @@ code-label c w =
 
 pub label-code : (c : ℕ) → labelOf c < 4096 → Codeword c
 label-code c h = record { label = labelOf c; made = label-word c h }
-
-pub has-encodable : (y : List ℤ) → HasWord y → T (encodable y)
-unfolding encodable oneParity inCode inBounds rightSum
-has-encodable y h =
-    let q = h .point in
-    let e : q .p ≡ parityAt y = sym (q .one-parity 0 (omega arith)) in
-    let A = inOwnClass (sectionRanks y 0) in
-    let B = inMiddle (sectionRanks y 1) in
-    let C = inOwnClass (sectionRanks y 2) in
-    let S = eqb (modZ (kSum y) 2) (parityAt y) in
-    and-in (oneParity y) (inCode y && (inBounds y && S))
-    (at-uniform (parityAt y) y (λ k l. q .one-parity k (omega (arith, q .size)) ∙ e))
-    (and-in (inCode y) (inBounds y && S) (lt→ltb (labelFor y) 4096 (code-label (bitsOf (trio y)) (q .codeword)))
-    (and-in (inBounds y) S (and-in A (B && C) (h .first) (and-in B C (h .second) (h .third)))
-    (eq→eqb (modZ (kSum y) 2) (parityAt y) (q .sum-of-k ∙ e))))
-
-pub encodable-has : (y : List ℤ) → length y ≡ 24 → T (encodable y) → HasWord y
-unfolding encodable inCode inBounds rightSum
-encodable-has y e t =
-    let a = split4 (oneParity y) (ltb (labelFor y) 4096) (inBounds y) (eqb (modZ (kSum y) 2) (parityAt y)) t in
-    let b = split3 (inOwnClass (sectionRanks y 0)) (inMiddle (sectionRanks y 1)) (inOwnClass (sectionRanks y 2)) (a .2) in
-    record {
-      point =
-          record {
-            size = e;
-            p = parityAt y;
-            one-parity = λ i h. first-parity y (a .0) i (omega arith);
-            codeword = label-code (bitsOf (trio y)) (ltb→lt (labelFor y) 4096 (a .1));
-            sum-of-k = eqb→eq (modZ (kSum y) 2) (parityAt y) (a .3);
-          };
-      first = b .0;
-      second = b .1;
-      third = b .2;
-    }
 
 -- ---- the sum of k is even or odd as the sum of the three classes is
 pub sum-classes : (p : ℕ) (y : List ℤ) → length y ≡ 24 → T (uniform p (trio y)) → Codeword (bitsOf (trio y))

@@ -15,9 +15,7 @@ use Rattle.laws.specs.Laws.Tests.{is-true}
 use Rattle.float.specs.Value.{U, magUnits}
 use Rattle.float.specs.Calls.{million64, quotientsOf}
 use Rattle.tetra.specs.Block.{blockAt}
-use Rattle.tetra.specs.Encode.{encodable, encodeOf}
-use Rattle.tetra.specs.Demand2.{accepts}
-use Rattle.tetra.specs.Laws.Word.{encodable-has}
+use Rattle.tetra.specs.Demand2.{word-small as Demand2·word-small}
 use Rattle.score.specs.Samples.{limit64, exceeds, some, sampleNumber, isScale, scaleNumber}
 use Rattle.score.specs.Score.{doublesOf}
 use Rattle.score.specs.Laws.Sample.{UpTo, Sample, each-map, sample-number-zero}
@@ -115,15 +113,7 @@ scaled-number ys s t w f =
     go a n true p q h = absurd (h (rw (p, q)))
     go a n false p q h = rw (p, q)
 
--- ---- words have 47 bits: whatever 24 numbers a point has, its word is below 2 ^ 47, and a refusal's is 0
-point-word : (y : List ℤ) → length y ≡ 24 → encodeOf y .word < 2 ^ 47
-unfolding encodeOf
-point-word y h = go (encodable y) refl
-  where
-    go : (b : Bool) → encodable y ≡ b → encodeOf y .word < 2 ^ 47
-    go true e = accepts y (encodable-has y h (subst T (sym e) tt)) .small
-    go false e = rw e (lit≤ tt)
-
+-- ---- words have 47 bits
 pub word-small : (s : Float) (xs : List ℤ) (i : ℕ) → wordFor s xs i < 2 ^ 47
 unfolding wordFor codeFor codeOf
 word-small s xs i = go (eqb (numberAt x s 8) 0) refl
@@ -134,7 +124,7 @@ word-small s xs i = go (eqb (numberAt x s 8) 0) refl
     go : (b : Bool) → eqb (numberAt x s 8) 0 ≡ b → encodeAtOver bothParities x s 8 .word < 2 ^ 47
     go true e =
         subst (λ (c : Code). c .word < 2 ^ 47) (sym (at-accepted bothParities x s 8 (eqb-true _ 0 e)))
-        (point-word (pointFrom (winnerFor bothParities 8 (quotientsOf x s))) (tab-length ℤ _ 24))
+        (Demand2·word-small (pointFrom (winnerFor bothParities 8 (quotientsOf x s))) (tab-length ℤ _ 24))
     go false e = subst (λ (c : Code). c .word < 2 ^ 47) (sym (at-refused bothParities x s 8 (eqb-false _ 0 e))) (lit≤ tt)
 
 -- so those of a page fit it

@@ -2,14 +2,18 @@
 -- everything else, with what was lent left as it was. First for any call, then call by call. Assumes nothing.
 use mathlib.Core.Path.{_≡_, refl, sym}
 use mathlib.Core.Bool.{Bool, true, false, _||_}
+use mathlib.Core.Logic.{_↔_}
 use mathlib.Core.List.{List, _++_}
 use Prim.Native.Nat.{ℕ, _<_, _≤_}
 use borrow.Author.Tests.{eq-eqb, ne-eqb, lt-ltb, le-ltb}
 use lib.IntN.{ℤ}
 use lib.Ieee.{Float}
 use lib.ListN.{length, take, drop}
+use lib.Seq.{length-take-le}
+use Rattle.refusal.specs.Refusal.{outside}
 use Rattle.tetra.specs.Tetra.{pointOf}
 use Rattle.tetra.specs.Encode.{encodeOf}
+use Rattle.tetra.specs.Demand2.{section-told}
 use Rattle.encoder.specs.declared.Code.{Code}
 use Rattle.yultarvas.specs.Calls.{
   roomFirst,
@@ -21,6 +25,7 @@ use Rattle.yultarvas.specs.Calls.{
   wordFor,
   pointNumber,
   pointWord,
+  outsideSection,
   codeNumber,
 }
 
@@ -72,6 +77,14 @@ module _ (y : List ℤ) (old : ℕ) where
 
   pub point-short : length y < 24 → (pointNumber y ≡ 8) × (pointWord y old ≡ old)
   point-short h = let n = no-room ℤ y (wordFor y .number) h in (sym n, rw (← n))
+
+-- the section is told beside 11 alone, so that a slice that is too short has none
+pub outside-room : (y : List ℤ) → 24 ≤ length y → (pointNumber y ≡ outside) ↔ (1 ≤ outsideSection y)
+outside-room y h =
+    rw (le-ltb (length y) 24 h) (section-told (take 24 y) (length-take-le 24 y h))
+
+pub outside-short : (y : List ℤ) → length y < 24 → outsideSection y ≡ 0
+outside-short y h = rw (lt-ltb (length y) 24 h)
 
 -- ---- samples to their code
 module _ (x : List Float) (old : List ℤ) (c : Code) where
