@@ -4,7 +4,7 @@
  *
  * Answers. Each call answers YULTARVAS_OK or the number of the refusal, and on a refusal writes nothing.
  * Where more than one number would fit, the first of those that stand behind 'Refused:' is answered. The
- * answer of yultarvas_write_page carries a block beside the number.
+ * answer of yultarvas_write_page carries a block beside the number, and yultarvas_outside answers a section.
  *
  * Slices. A slice is a pointer and its length in elements, in this order; the length is at most PTRDIFF_MAX
  * bytes. A block of 24 stands at a slice's start; of a longer slice the rest is neither read nor written. A
@@ -35,9 +35,9 @@ extern "C" {
 
 /* The version of this header and of the calls that it declares. */
 #define YULTARVAS_VERSION_MAJOR 0
-#define YULTARVAS_VERSION_MINOR 3
+#define YULTARVAS_VERSION_MINOR 4
 #define YULTARVAS_VERSION_PATCH 0
-#define YULTARVAS_VERSION "0.3.0"
+#define YULTARVAS_VERSION "0.4.0"
 
 /* Samples of a block, coordinates of a point; the most blocks of a page; the most counts of a page; the most
  * bytes of a page's text. */
@@ -56,10 +56,14 @@ enum yultarvas_number {
     YULTARVAS_TOO_LARGE = 2,       /* a sample's magnitude exceeds 1e290; one of a page, 32767 */
     YULTARVAS_BAD_SCALE = 3,       /* the scale is not a finite number above 0; a num, not from 1 to 65535 */
     YULTARVAS_FAR_QUOTIENT = 4,    /* a sample over the scale exceeds 1e6 in magnitude */
-    YULTARVAS_NO_WORD = 5,         /* no word decodes to the point */
+    YULTARVAS_MIXED_PARITY = 5,    /* no word: the point's coordinates are not all even or all odd */
     YULTARVAS_BAD_SETTING = 7,     /* the setting of the shrinks is 0 */
     YULTARVAS_NO_ROOM = 8,         /* a slice is too short */
-    YULTARVAS_NO_PAGE = 9          /* the text is no page; or there are too many blocks for one */
+    YULTARVAS_NO_PAGE = 9,         /* the text is no page; or there are too many blocks for one */
+    YULTARVAS_NO_CODEWORD = 10,    /* no word: the coordinates that are 2 or 3 modulo 4 are no codeword */
+    YULTARVAS_OUTSIDE = 11,        /* no word: a section is outside its bound; yultarvas_outside says which */
+    YULTARVAS_WRONG_SUM = 12       /* no word: the sum of the coordinates' quarters is odd and they are even,
+                                      or even and they are odd */
 };
 
 /* What yultarvas_environment answers. */
@@ -74,8 +78,29 @@ enum yultarvas_environment_answer {
 /* The point of a word, in natural order, into point. Bits 47 and up are ignored. Refused: 8. */
 uint32_t yultarvas_decode(uint64_t word, int32_t *point, size_t point_len);
 
-/* The word of a point, with gain 0, into word. Refused: 8, 5. */
+/* The word of a point, with gain 0, into word. Refused: 8; then 5, 10, 11, 12, which say why no word decodes
+ * to the point:
+ *    5  the coordinates are not all even or all odd;
+ *   10  the coordinates that are 2 or 3 modulo 4 are no codeword of the Golay code: some coordinates would
+ *       have to change by 2;
+ *   11  a section is outside its bound: it needs smaller values. yultarvas_outside says which section;
+ *   12  the sum of the quarters of the coordinates, each rounded down, is odd where the coordinates are even,
+ *       or even where they are odd: changing one coordinate by 4 mends the sum. */
 uint32_t yultarvas_encode_point(const int32_t *point, size_t point_len, uint64_t *word);
+
+/* The section that is outside its bound, where that is why the point has no word: 1, 2 or 3, the lowest one
+ * where there are several. 0 where yultarvas_encode_point does not answer 11. The sections have the
+ * coordinates
+ *   1  0, 1, 2, 3, 4, 7, 10, 12
+ *   2  6, 11, 13, 14, 16, 17, 18, 19
+ *   3  5, 8, 9, 15, 20, 21, 22, 23. */
+uint32_t yultarvas_outside(const int32_t *point, size_t point_len);
+
+/* Whether a number that yultarvas_encode_point answered says that no word decodes to the point. */
+static inline int yultarvas_no_word(uint32_t number) {
+    return number == YULTARVAS_MIXED_PARITY || number == YULTARVAS_NO_CODEWORD || number == YULTARVAS_OUTSIDE
+           || number == YULTARVAS_WRONG_SUM;
+}
 
 /* ---- samples to codes: the word, its point and the score */
 

@@ -27,9 +27,35 @@ static void words_and_points(void) {
     expect("decode", yultarvas_decode(1, point, 30) == YULTARVAS_OK && point[0] == 1 && point[23] == -3
                          && point[24] == 9);
     expect("encode_point", yultarvas_encode_point(point, 30, &word) == YULTARVAS_OK && word == 1);
+    expect("outside, a point that has a word", yultarvas_outside(point, 30) == 0);
     point[0] = 2;
-    expect("encode_point, no word",
-           yultarvas_encode_point(point, 24, &word) == YULTARVAS_NO_WORD && word == 1);
+    expect("encode_point, both parities",
+           yultarvas_encode_point(point, 24, &word) == YULTARVAS_MIXED_PARITY && word == 1);
+    expect("no_word", yultarvas_no_word(YULTARVAS_MIXED_PARITY) && !yultarvas_no_word(YULTARVAS_OK)
+                          && !yultarvas_no_word(YULTARVAS_NO_ROOM));
+}
+
+/* Why a point has no word. */
+static void no_words(void) {
+    int32_t point[YULTARVAS_BLOCK] = {2};
+    uint64_t word = 7;
+    expect("encode_point, no codeword", yultarvas_encode_point(point, 24, &word) == YULTARVAS_NO_CODEWORD
+                                            && yultarvas_outside(point, 24) == 0);
+    point[0] = 4;
+    expect("encode_point, wrong sum", yultarvas_encode_point(point, 24, &word) == YULTARVAS_WRONG_SUM
+                                          && yultarvas_outside(point, 24) == 0);
+    point[0] = INT32_MIN; /* the sum is even, the first section far outside */
+    expect("encode_point, outside", yultarvas_encode_point(point, 24, &word) == YULTARVAS_OUTSIDE
+                                        && yultarvas_outside(point, 24) == 1);
+    point[0] = 0;
+    point[6] = point[15] = 12; /* sections 2 and 3 */
+    expect("the lowest section", yultarvas_encode_point(point, 24, &word) == YULTARVAS_OUTSIDE
+                                     && yultarvas_outside(point, 24) == 2);
+    point[6] = 4;
+    expect("the third section", yultarvas_encode_point(point, 24, &word) == YULTARVAS_OUTSIDE
+                                    && yultarvas_outside(point, 24) == 3);
+    expect("outside, short", yultarvas_outside(point, 23) == 0);
+    expect("word as it was", word == 7);
 }
 
 static void samples(void) {
@@ -129,6 +155,7 @@ static void nothing(void) {
     int32_t point[YULTARVAS_BLOCK] = {0};
     expect("decode into nothing", yultarvas_decode(1, NULL, 0) == YULTARVAS_NO_ROOM);
     expect("encode_point of nothing", yultarvas_encode_point(NULL, 0, &word) == YULTARVAS_NO_ROOM);
+    expect("outside of nothing", yultarvas_outside(NULL, 0) == 0);
     expect("encode of nothing", yultarvas_encode(NULL, 0, &word, point, 24, &score) == YULTARVAS_NO_ROOM);
     expect("encode into nothing", yultarvas_encode(x, 24, &word, NULL, 0, &score) == YULTARVAS_NO_ROOM);
     expect("encode_with of nothing",
@@ -154,6 +181,7 @@ int main(void) {
         return 1;
     }
     words_and_points();
+    no_words();
     samples();
     pages();
     written();

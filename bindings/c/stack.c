@@ -79,6 +79,7 @@ static void must(uint32_t number) {
 }
 static void decode(void) { must(yultarvas_decode(word, point, YULTARVAS_BLOCK)); }
 static void encode_point(void) { must(yultarvas_encode_point(point, YULTARVAS_BLOCK, &word)); }
+static void outside(void) { must(yultarvas_outside(point, YULTARVAS_BLOCK)); }
 static void encode(void) {
     must(yultarvas_encode(x, YULTARVAS_BLOCK, &word, point, YULTARVAS_BLOCK, &score));
 }
@@ -103,13 +104,14 @@ static void write_page(void) {
 }
 static void environment(void) { must(yultarvas_environment_now()); }
 
-/* decode leaves the point that encode_point takes, lower_scale the scale that encode_at_scale takes. */
+/* decode leaves the point that encode_point and outside take, lower_scale the scale that encode_at_scale takes. */
 static const struct {
     const char *name;
     void (*call)(void);
 } calls[] = {
     {"decode", decode},
     {"encode_point", encode_point},
+    {"outside", outside},
     {"encode", encode},
     {"encode_with", encode_with},
     {"lower_scale", lower_scale},

@@ -116,11 +116,17 @@ pub fn decode(word: u64) -> [i32; BLOCK] {
     point
 }
 
-/// The word that decodes to a point, with gain 0. Refused with [`Refused::NoWord`].
+/// The word that decodes to a point, with gain 0. Where there is none, refused with the first that fits of
+/// [`Refused::MixedParity`], [`Refused::NoCodeword`], [`Refused::Outside`] with the lowest section that is
+/// outside its bound, [`Refused::WrongSum`]; [`Refused::no_word`] holds of each.
 pub fn encode_point(point: &[i32; BLOCK]) -> Result<u64, Refused> {
     let mut word = 0;
     let number = unsafe { raw::yultarvas_encode_point(point.as_ptr(), point.len(), &mut word) };
-    Refused::unless(number, word)
+    if number == 0 {
+        return Ok(word);
+    }
+    let section = unsafe { raw::yultarvas_outside(point.as_ptr(), point.len()) };
+    Refused::of_point(number, section, word)
 }
 
 /// The code of samples at the scale that they give: what a recorder calls. Samples that are all zero have

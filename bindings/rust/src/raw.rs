@@ -1,7 +1,7 @@
 //! The calls as the library has them, for callers that lend slices of their own. include/yultarvas.h says
 //! what each one asks and answers: a slice is a pointer and its length, of which the first
 //! [`BLOCK`](crate::BLOCK) places are meant; a call answers 0 or the number of the refusal, and on a refusal
-//! writes nothing.
+//! writes nothing; `yultarvas_outside` answers a section.
 //!
 //! # Safety
 //!
@@ -14,6 +14,8 @@ extern "C" {
     pub fn yultarvas_decode(word: u64, point: *mut i32, point_len: usize) -> u32;
     /// The word of a point.
     pub fn yultarvas_encode_point(point: *const i32, point_len: usize, word: *mut u64) -> u32;
+    /// The section of a point that is outside its bound, where that is why it has no word; else 0.
+    pub fn yultarvas_outside(point: *const i32, point_len: usize) -> u32;
     /// The code of samples at the scale that they give.
     pub fn yultarvas_encode(
         samples: *const f64,

@@ -1,7 +1,8 @@
 //! Why a call was refused, and what is wrong with a thread's doubles.
 //!
 //! A number that a later library answers becomes a variant, a line of `about` and one of `from_number`. A
-//! call whose refusal comes with a block answers a [`RefusedAt`].
+//! call whose refusal comes with a block answers a [`RefusedAt`]; that of a point may come with a section,
+//! which is a field of the variant.
 use core::error::Error;
 use core::fmt;
 
@@ -17,14 +18,24 @@ pub enum Refused {
     BadScale,
     /// 4: a sample over the scale exceeds 1e6 in magnitude.
     FarQuotient,
-    /// 5: no word decodes to the point.
-    NoWord,
+    /// 5: no word decodes to the point: its coordinates are not all even or all odd.
+    MixedParity,
     /// 7: the setting of the shrinks is 0.
     BadSetting,
     /// 8: a slice is too short for what goes into it.
     NoRoom,
     /// 9: the text is no page; or there are more blocks than a page has.
     NoPage,
+    /// 10: no word decodes to the point: its coordinates that are 2 or 3 modulo 4 are no codeword.
+    NoCodeword,
+    /// 11: no word decodes to the point: a section of it is outside its bound.
+    Outside {
+        /// The lowest such section: 1, 2 or 3.
+        section: u32,
+    },
+    /// 12: no word decodes to the point: the sum of its coordinates' quarters, each rounded down, is odd where
+    /// they are even, or even where they are odd.
+    WrongSum,
     /// A number that this version of the crate has no name for.
     Other(u32),
 }
@@ -33,6 +44,15 @@ impl Refused {
     /// The number of the refusal, as documents and other languages have it.
     pub const fn number(self) -> u32 {
         self.about().0
+    }
+
+    /// Whether this says that no word decodes to a point, which [`encode_point`](crate::encode_point) says in
+    /// four ways.
+    pub const fn no_word(self) -> bool {
+        matches!(
+            self,
+            Refused::MixedParity | Refused::NoCodeword | Refused::Outside { .. } | Refused::WrongSum
+        )
     }
 
     /// The number and its sentence.
@@ -45,10 +65,38 @@ impl Refused {
                 "the scale is not a finite number above 0, or num not from 1 to 65535",
             ),
             Refused::FarQuotient => (4, "a sample over the scale exceeds 1e6 in magnitude"),
-            Refused::NoWord => (5, "no word decodes to the point"),
+            Refused::MixedParity => (
+                5,
+                "the point has no word: its coordinates are not all even or all odd",
+            ),
             Refused::BadSetting => (7, "the setting of the shrinks is 0"),
             Refused::NoRoom => (8, "a slice is too short"),
             Refused::NoPage => (9, "the text is no page, or has too many blocks"),
+            Refused::NoCodeword => (
+                10,
+                "the point has no word: the coordinates that are 2 or 3 modulo 4 are no codeword; \
+                 some coordinates would have to change by 2",
+            ),
+            Refused::Outside { section: 1 } => (
+                11,
+                "the point has no word: section 1 (coordinates 0, 1, 2, 3, 4, 7, 10, 12) is outside its \
+                 bound; it needs smaller values",
+            ),
+            Refused::Outside { section: 2 } => (
+                11,
+                "the point has no word: section 2 (coordinates 6, 11, 13, 14, 16, 17, 18, 19) is outside \
+                 its bound; it needs smaller values",
+            ),
+            Refused::Outside { .. } => (
+                11,
+                "the point has no word: section 3 (coordinates 5, 8, 9, 15, 20, 21, 22, 23) is outside \
+                 its bound; it needs smaller values",
+            ),
+            Refused::WrongSum => (
+                12,
+                "the point has no word: the sum of its coordinates' quarters, each rounded down, is odd \
+                 where they are even, or even where they are odd; changing one by 4 mends it",
+            ),
             Refused::Other(number) => (
                 number,
                 "the library has a reason that this version of the crate does not know",
@@ -56,16 +104,19 @@ impl Refused {
         }
     }
 
+    /// 11 comes with a section: [`Refused::of_point`] has it.
     const fn from_number(number: u32) -> Refused {
         match number {
             1 => Refused::NotFinite,
             2 => Refused::TooLarge,
             3 => Refused::BadScale,
             4 => Refused::FarQuotient,
-            5 => Refused::NoWord,
+            5 => Refused::MixedParity,
             7 => Refused::BadSetting,
             8 => Refused::NoRoom,
             9 => Refused::NoPage,
+            10 => Refused::NoCodeword,
+            12 => Refused::WrongSum,
             other => Refused::Other(other),
         }
     }
@@ -76,6 +127,15 @@ impl Refused {
             Ok(value)
         } else {
             Err(Refused::from_number(number))
+        }
+    }
+
+    /// The same of a point, with the section that is outside its bound, which is not 0 where the number is 11.
+    pub(crate) fn of_point(number: u32, section: u32, word: u64) -> Result<u64, Refused> {
+        if section == 0 {
+            Refused::unless(number, word)
+        } else {
+            Err(Refused::Outside { section })
         }
     }
 }

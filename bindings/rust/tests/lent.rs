@@ -27,10 +27,43 @@ fn order_of_refusals() {
         encode_at_scale(&[1000001.0; 24], 1.0, 8),
         Err(Refused::FarQuotient)
     );
-    assert_eq!(encode_point(&[1; 24]), Err(Refused::NoWord));
     assert_eq!(read_page(PAGE, &mut [7; 23]), Err(Refused::NoRoom));
     assert_eq!(read_page(b"", &mut []), Err(Refused::NoPage));
     assert_eq!(parse_page(b""), Err(Refused::NoPage));
+}
+
+fn point(values: &[(i32, usize)]) -> [i32; 24] {
+    let mut y = [0; 24];
+    for (v, i) in values {
+        y[*i] = *v;
+    }
+    y
+}
+
+// The first that fits of 5, 10, 11 with the lowest section, 12.
+#[test]
+fn why_no_word() {
+    let outside = |section| Err(Refused::Outside { section });
+    assert_eq!(encode_point(&point(&[(4, 0), (4, 1)])), Ok(0x3800));
+    assert_eq!(
+        encode_point(&point(&[(1, 0), (i32::MIN, 1)])),
+        Err(Refused::MixedParity)
+    );
+    assert_eq!(
+        encode_point(&point(&[(2, 0), (100, 1)])),
+        Err(Refused::NoCodeword)
+    );
+    assert_eq!(encode_point(&point(&[(12, 0)])), outside(1));
+    assert_eq!(
+        encode_point(&point(&[(i32::MIN, 0), (12, 6), (12, 5)])),
+        outside(1)
+    );
+    assert_eq!(encode_point(&point(&[(12, 6), (12, 5)])), outside(2));
+    assert_eq!(encode_point(&point(&[(4, 6), (12, 5)])), outside(3));
+    assert_eq!(encode_point(&point(&[(4, 0)])), Err(Refused::WrongSum));
+    assert_eq!(encode_point(&[1; 24]), Err(Refused::WrongSum));
+    assert!(encode_point(&[1; 24]).is_err_and(Refused::no_word));
+    assert!(!Refused::NoRoom.no_word());
 }
 
 #[test]
@@ -40,18 +73,27 @@ fn numbers() {
         (2, Refused::TooLarge),
         (3, Refused::BadScale),
         (4, Refused::FarQuotient),
-        (5, Refused::NoWord),
+        (5, Refused::MixedParity),
         (7, Refused::BadSetting),
         (8, Refused::NoRoom),
         (9, Refused::NoPage),
+        (10, Refused::NoCodeword),
+        (11, Refused::Outside { section: 1 }),
+        (11, Refused::Outside { section: 3 }),
+        (12, Refused::WrongSum),
         (16, Refused::Other(16)),
     ];
     for (number, refused) in all {
         assert_eq!(refused.number(), number);
     }
     assert_eq!(
-        Refused::NoWord.to_string(),
-        "no word decodes to the point (refused with 5)"
+        Refused::MixedParity.to_string(),
+        "the point has no word: its coordinates are not all even or all odd (refused with 5)"
+    );
+    assert_eq!(
+        Refused::Outside { section: 2 }.to_string(),
+        "the point has no word: section 2 (coordinates 6, 11, 13, 14, 16, 17, 18, 19) is outside its bound; it \
+         needs smaller values (refused with 11)"
     );
 }
 
@@ -119,7 +161,10 @@ fn untouched() {
     let two = b"format=tetra-page\nnum=1\ncount=3\nword=000000000001\nword=000000000001\nword=000000000001\n";
     unsafe {
         assert_eq!(raw::yultarvas_decode(1, at, 23), 8);
-        assert_eq!(raw::yultarvas_encode_point([1; 24].as_ptr(), 24, &mut word), 5);
+        assert_eq!(raw::yultarvas_encode_point([1; 24].as_ptr(), 24, &mut word), 12);
+        assert_eq!(raw::yultarvas_outside([1; 24].as_ptr(), 24), 0);
+        assert_eq!(raw::yultarvas_outside([12; 24].as_ptr(), 24), 1);
+        assert_eq!(raw::yultarvas_outside([12; 23].as_ptr(), 23), 0);
         assert_eq!(raw::yultarvas_encode_point([0; 23].as_ptr(), 23, &mut word), 8);
         assert_eq!(
             raw::yultarvas_encode_at_scale(x, 24, 1.0, 8, &mut word, at, 24, &mut score),

@@ -53,7 +53,10 @@ fn listed(y: &[i32]) -> String {
 }
 
 fn refused(r: Refused) -> String {
-    format!("refused={}", r.number())
+    match r {
+        Refused::Outside { section } => format!("refused=11 section={section}"),
+        _ => format!("refused={}", r.number()),
+    }
 }
 
 // The sign of a zero is cleared.
