@@ -86,9 +86,9 @@ def auto_line(n, x):
     return f"auto {n} " + " ".join(map(raw, x))
 
 
-def word_answer(y):
-    word = own.word_of(y)
-    return "refused=5" if word is None else f"word={word:012x}"
+def folded(answer):
+    """The Rust has one refusal of a point, which stands as 5."""
+    return re.sub(r"^refused=(10|11 section=[123]|12)$", "refused=5", answer)
 
 
 # ---- the numbers in docs/FORMAT.md
@@ -100,13 +100,17 @@ def table_rows(text, first):
     return [[cell.strip() for cell in line.strip("|").split("|")] for line in rows if not line.startswith("|---")]
 
 
+def format_text():
+    with open(os.path.join(ROOT, "docs", "FORMAT.md"), encoding="utf-8") as f:
+        return f.read()
+
+
 def whole(cells):
     return [int(cell.replace(",", "")) for cell in cells]
 
 
 def document():
-    with open(os.path.join(ROOT, "docs", "FORMAT.md"), encoding="utf-8") as f:
-        text = f.read()
+    text = format_text()
     found = {row[0]: (int(row[1]), int(row[2])) for row in table_rows(text, "| field |")[1:]}
     check("document: the fields", found == own.FIELDS, found)
     octads = re.search(r"\n    (0x\w{6})   (0x\w{6})   (0x\w{6})\n", text)
@@ -207,20 +211,34 @@ def document_example(text):
     check("document: the example's word", own.word_of(natural) == word, own.word_of(natural))
 
 
-# the table of §5: the coordinates that are not zero, and the word
-POINTS = [({}, 0), ({i: 1 for i in range(23)} | {23: -3}, 1), ({12: 4, 23: 4}, 2), ({i: 2 for i in (0, 1, 2, 3, 4, 7, 10, 12)}, 0x100),
-          ({0: 4, 1: 4}, 0x3800), ({19: 4, 23: 4}, 0x4D8000000), ({i: 1 for i in range(24)}, None), ({0: 4}, None), ({0: 2}, None), ({0: 1}, None),
-          ({0: 12, 1: 4}, None)]
+def told_point(words):
+    """A point as the table of §5 tells it: V at I, I and I, V at I, else 0; or all V, but V at I."""
+    every = re.match(r"all (-?\d+)", words)
+    y = [int(every[1]) if every else 0] * 24
+    for v, places in re.findall(r"(-?\d+) at (\d+(?:(?:, | and )\d+(?! at))*)", words):
+        for i in re.findall(r"\d+", places):
+            y[int(i)] = int(v)
+    return y
+
+
+def told_answer(words):
+    """What the table says of it, as ask answers."""
+    none = re.match(r"none, (\d+)(?:, section (\d))?", words)
+    if none:
+        return f"refused={none[1]}" + (f" section={none[2]}" if none[2] else "")
+    return f"word={int(words.split(':')[0], 0):012x}"
+
+
+def table_points(text):
+    """The points of the table of §5, and what it says of each."""
+    return [(told_point(row[0]), told_answer(row[1])) for row in table_rows(text, "| point, natural order |")[1:]]
 
 
 def document_points(text):
-    said = [row[1].split(":")[0] for row in table_rows(text, "| point, natural order |")[1:]]
-    wanted = ["none" if w is None else str(w) if w < 3 else hex(w) for _, w in POINTS]
-    check("document: the table of points", said == wanted and all(own.word_of(natural(p)) == w for p, w in POINTS), said)
-
-
-def natural(places):
-    return [places.get(i, 0) for i in range(24)]
+    points = table_points(text)
+    wrong = [(y, told, own.answer(y)) for y, told in points if own.answer(y) != told]
+    kinds = {told if told.startswith("refused") else "word" for _, told in points}
+    check(f"document: the table of {len(points)} points", not wrong and len(kinds) == 7, wrong or kinds)
 
 
 # ---- words and points
@@ -258,12 +276,14 @@ def words_and_points(programs):
         same(f"{name}: words to points", asked, [f"point={listed(y)}" for y in points], answers(program, [f"decode {w:x}" for w in asked]))
     check("points: each goes back to the low 47 bits of its word", all(own.word_of(y) == w % 2**47 for w, y in zip(asked, points)))
     broken = [damaged(rng, y) for y in points]
-    table = [natural(p) for p, _ in POINTS]
+    table = [y for y, _ in table_points(format_text())]
     for name, program in programs:
         same(f"{name}: points of words", points, [f"word={w % 2**47:012x}" for w in asked], answers(program, map(point_line, points)))
-        wanted = [word_answer(y) for y in broken]
+        seen = folded if name == "oracle" else str
+        wanted = [seen(own.answer(y)) for y in broken]
         same(f"{name}: damaged points", broken, wanted, answers(program, map(point_line, broken)))
-        same(f"{name}: the points of the document's table", table, [word_answer(y) for y in table], answers(program, map(point_line, table)))
+        wanted = [seen(own.answer(y)) for y in table]
+        same(f"{name}: the points of the document's table", table, wanted, answers(program, map(point_line, table)))
     refused = sum(own.word_of(y) is None for y in broken)
     check(f"points: {refused} of the damaged ones refused, {len(broken) - refused} have a word", 100 < refused < len(broken) - 100)
 
@@ -435,8 +455,8 @@ def vectors(folder):
     rows = stored(folder, "decode.txt")
     same("stored: words to points", rows, [r[1] for r in rows], [listed(own.point(int(r[0], 16))) for r in rows])
     rows = stored(folder, "point.txt")
-    wanted = ["refused=5" if r[1] == "none" else "word=" + r[1] for r in rows]
-    same("stored: points to words", rows, wanted, [word_answer([int(y) for y in r[0].split(",")]) for r in rows])
+    wanted = [f"word={r[1]}" if r[1] != "none" else f"refused={r[2]}" + (f" section={r[3]}" if r[3] != "0" else "") for r in rows]
+    same("stored: points to words, and why there is none", rows, wanted, [own.answer([int(y) for y in r[0].split(",")]) for r in rows])
     rows = stored(folder, "score.txt")
     scores = [bits(own.score([double(x) for x in r[0].split(",")], [int(y) for y in r[1].split(",")])) for r in rows]
     same("stored: scores", rows, [r[2] for r in rows], scores)

@@ -2,7 +2,7 @@
 """A decoder for words, points and pages, written from docs/FORMAT.md and nothing else. § names the part of it that a function carries out.
 
     format_decoder.py word W ..         the point of each word, which is given in hexadecimal
-    format_decoder.py point Y0 .. Y23   the word of a point, or refused=5
+    format_decoder.py point Y0 .. Y23   the word of a point, or refused= with the number that says why it has none, and section= with 11
     format_decoder.py page              reads a page from standard input and prints its counts, or refused=9
 
 It needs Python's standard library alone. tests/format.py holds it to the proved program.
@@ -126,26 +126,48 @@ def point(word):
 
 # ---- §5 from a point to its word
 
-def word_of(y):
-    """The word, or None where the point has none."""
+def own_bound(ranks):
+    return BOUNDS[class_of(ranks)]
+
+
+def outside(sections):
+    """The lowest section that is outside its bound, 1 to 3; 0 where none is. A rank that is not found is past 7, and within no bound."""
+    for i, ranks in enumerate(sections):
+        if None in ranks or not within(ranks, MIDDLE if i == 1 else own_bound(ranks)):
+            return i + 1
+    return 0
+
+
+def encoded(y):
+    """Number, section and word: 0, 0 and the word, or why the point has none, and None."""
     p = y[0] % 2
     if any(v % 2 != p for v in y):
-        return None
+        return 5, 0, None
     trio = [y[i] for i in ORDER]
     label = labels().get(sum(v // 2 % 2 * 2**place for place, v in enumerate(trio)))
     if label is None:
-        return None
+        return 10, 0, None
     ranks = [rank_of(v) for v in trio]
-    if None in ranks:
-        return None
-    first, second, third = tuple(ranks[:8]), tuple(ranks[8:16]), tuple(ranks[16:])
+    first, second, third = sections = tuple(ranks[:8]), tuple(ranks[8:16]), tuple(ranks[16:])
+    section = outside(sections)
+    if section:
+        return 11, section, None
     r, middle, last = class_of(first), class_of(second), class_of(third)
-    if not (within(first, BOUNDS[r]) and within(second, MIDDLE) and within(third, BOUNDS[last])):
-        return None
     if last != p ^ r ^ middle:
-        return None
-    return joined({"p": p, "r": r, "s8": label % 64, "b1": label // 64 % 2, "i1": numbers()[r][first], "b2": label // 128 % 16,
-                   "i2": numbers()[middle][second] + 1240 * middle, "b3": label // 2048, "i3": numbers()[last][third], "gain": 0})
+        return 12, 0, None
+    return 0, 0, joined({"p": p, "r": r, "s8": label % 64, "b1": label // 64 % 2, "i1": numbers()[r][first], "b2": label // 128 % 16,
+                         "i2": numbers()[middle][second] + 1240 * middle, "b3": label // 2048, "i3": numbers()[last][third], "gain": 0})
+
+
+def word_of(y):
+    """The word, or None where the point has none."""
+    return encoded(y)[2]
+
+
+def answer(y):
+    """As the program ask answers a point."""
+    number, section, word = encoded(y)
+    return f"word={word:012x}" if number == 0 else f"refused={number}" + (f" section={section}" if section else "")
 
 
 # ---- §6 the page
@@ -266,8 +288,7 @@ def main(arguments):
         for w in rest:
             print("point=" + ",".join(map(str, point(int(w, 16)))))
     elif kind == "point" and len(rest) == 24 and all(re.fullmatch("-?[0-9]+", y) for y in rest):
-        word = word_of([int(y) for y in rest])
-        print("refused=5" if word is None else f"word={word:012x}")
+        print(answer([int(y) for y in rest]))
     elif kind == "page" and not rest:
         sys.stdout.write(unpage(sys.stdin.buffer.read()))
     else:

@@ -79,7 +79,7 @@ for script in tools/*.sh tools/nearest/*.sh tests/*.sh; do
     untouched 0 "bash $script" bash "$script" --help
     untouched 2 "bash $script" bash "$script" --no-such-option
 done
-for script in tools/float_vectors.py tests/pages.py tests/writes.py tests/written.py; do
+for script in tools/float_vectors.py tests/pages.py tests/points.py tests/writes.py tests/written.py; do
     untouched 0 "$script" python3 "$script" --help
     untouched 2 "$script" python3 "$script" --no-such-option
     untouched 2 "$script" python3 "$script" word
@@ -138,6 +138,11 @@ untouched 2 'no edits/nothing' bash tools/edits.sh nothing
 untouched 2 'no program' env UNPAGE=no/such python3 tests/pages.py
 untouched 2 'no program no/such' python3 tests/pages.py --oracle no/such
 untouched 2 'does not know --oracle' python3 tests/pages.py --oracle
+untouched 2 'no program no/such' env ASK=no/such python3 tests/points.py
+untouched 2 'tests/points.py' python3 tests/points.py 0
+untouched 1 'ask *refused=9' python3 tests/points.py 100
+untouched 2 'points_reading.py' python3 tests/points_reading.py 1 2 3
+try 0 '^refused=11 section=2$' python3 tests/points_reading.py 0 0 0 0 0 0 12 0 0 0 0 0 0 0 0 0 0 0 0 0 0 0 0 0
 untouched 2 'no program' env PROGRAMS=no/such python3 tests/writes.py
 untouched 2 'ORACLE has to name' python3 tests/written.py
 untouched 2 'ORACLE has to name' env ORACLE=no/such python3 tests/written.py

@@ -5,8 +5,9 @@
 #   bash tools/ask.sh point C0 .. C23    the word of a point, whose coordinates are decimal
 #   bash tools/ask.sh REQUEST ..         another request: the head of crates/answers/src/lib.rt lists them
 #   bash tools/ask.sh <REQUESTS
-# A request that is refused gives refused= and the number. What is proved is said on standard error; the first
-# time takes minutes, later ones about a second.
+# A request that is refused gives refused= and the number; a point with a section outside its bound gives
+# section= behind it. What is proved is said on standard error; the first time takes minutes, later ones about
+# a second.
 # Exit status: 0; 1 where the one request was refused, or input or output failed, or the proof did; 2 where an
 # argument is wrong.
 set -euo pipefail
