@@ -122,11 +122,12 @@ pub fn decode(word: u64) -> [i32; BLOCK] {
 pub fn encode_point(point: &[i32; BLOCK]) -> Result<u64, Refused> {
     let mut word = 0;
     let number = unsafe { raw::yultarvas_encode_point(point.as_ptr(), point.len(), &mut word) };
-    if number == 0 {
-        return Ok(word);
+    if number != 11 {
+        return Refused::unless(number, word);
     }
+    // That number comes with a section, which another call answers, since one that refuses writes nothing.
     let section = unsafe { raw::yultarvas_outside(point.as_ptr(), point.len()) };
-    Refused::of_point(number, section, word)
+    Err(Refused::Outside { section })
 }
 
 /// The code of samples at the scale that they give: what a recorder calls. Samples that are all zero have

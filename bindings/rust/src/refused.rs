@@ -104,7 +104,7 @@ impl Refused {
         }
     }
 
-    /// 11 comes with a section: [`Refused::of_point`] has it.
+    /// 11 is not here: it comes with a section, and `encode_point` makes the refusal.
     const fn from_number(number: u32) -> Refused {
         match number {
             1 => Refused::NotFinite,
@@ -127,15 +127,6 @@ impl Refused {
             Ok(value)
         } else {
             Err(Refused::from_number(number))
-        }
-    }
-
-    /// The same of a point, with the section that is outside its bound, which is not 0 where the number is 11.
-    pub(crate) fn of_point(number: u32, section: u32, word: u64) -> Result<u64, Refused> {
-        if section == 0 {
-            Refused::unless(number, word)
-        } else {
-            Err(Refused::Outside { section })
         }
     }
 }
