@@ -79,13 +79,7 @@ enum yultarvas_environment_answer {
 uint32_t yultarvas_decode(uint64_t word, int32_t *point, size_t point_len);
 
 /* The word of a point, with gain 0, into word. Refused: 8; then 5, 10, 11, 12, which say why no word decodes
- * to the point:
- *    5  the coordinates are not all even or all odd;
- *   10  the coordinates that are 2 or 3 modulo 4 are no codeword of the Golay code: some coordinates would
- *       have to change by 2;
- *   11  a section is outside its bound: it needs smaller values. yultarvas_outside says which section;
- *   12  the sum of the quarters of the coordinates, each rounded down, is odd where the coordinates are even,
- *       or even where they are odd: changing one coordinate by 4 mends the sum. */
+ * to the point: yultarvas_why_no_word has each in a sentence, and yultarvas_outside the section of 11. */
 uint32_t yultarvas_encode_point(const int32_t *point, size_t point_len, uint64_t *word);
 
 /* The section that is outside its bound, where that is why the point has no word: 1, 2 or 3, the lowest one
@@ -100,6 +94,33 @@ uint32_t yultarvas_outside(const int32_t *point, size_t point_len);
 static inline int yultarvas_no_word(uint32_t number) {
     return number == YULTARVAS_MIXED_PARITY || number == YULTARVAS_NO_CODEWORD || number == YULTARVAS_OUTSIDE
            || number == YULTARVAS_WRONG_SUM;
+}
+
+/* That in a sentence for the bench, with the section that yultarvas_outside answers; an empty text for every
+ * other number. The Rust crate has the same sentences. */
+static inline const char *yultarvas_why_no_word(uint32_t number, uint32_t section) {
+    switch (number) {
+    case YULTARVAS_MIXED_PARITY: return "the point has no word: its coordinates are not all even or all odd";
+    case YULTARVAS_NO_CODEWORD:
+        return "the point has no word: the coordinates that are 2 or 3 modulo 4 are no codeword; "
+               "some coordinates would have to change by 2";
+    case YULTARVAS_OUTSIDE:
+        switch (section) {
+        case 1:
+            return "the point has no word: section 1 (coordinates 0, 1, 2, 3, 4, 7, 10, 12) is outside its "
+                   "bound; it needs smaller values";
+        case 2:
+            return "the point has no word: section 2 (coordinates 6, 11, 13, 14, 16, 17, 18, 19) is outside "
+                   "its bound; it needs smaller values";
+        default:
+            return "the point has no word: section 3 (coordinates 5, 8, 9, 15, 20, 21, 22, 23) is outside "
+                   "its bound; it needs smaller values";
+        }
+    case YULTARVAS_WRONG_SUM:
+        return "the point has no word: the sum of its coordinates' quarters, each rounded down, is odd "
+               "where they are even, or even where they are odd; changing one by 4 mends it";
+    default: return "";
+    }
 }
 
 /* ---- samples to codes: the word, its point and the score */

@@ -31,6 +31,8 @@ static void words_and_points(void) {
     point[0] = 2;
     expect("encode_point, both parities",
            yultarvas_encode_point(point, 24, &word) == YULTARVAS_MIXED_PARITY && word == 1);
+    expect("why_no_word, other numbers", yultarvas_why_no_word(YULTARVAS_OK, 0)[0] == 0
+                                             && yultarvas_why_no_word(YULTARVAS_NO_ROOM, 0)[0] == 0);
     expect("no_word", yultarvas_no_word(YULTARVAS_MIXED_PARITY) && !yultarvas_no_word(YULTARVAS_OK)
                           && !yultarvas_no_word(YULTARVAS_NO_ROOM));
 }
@@ -54,6 +56,9 @@ static void no_words(void) {
     point[6] = 4;
     expect("the third section", yultarvas_encode_point(point, 24, &word) == YULTARVAS_OUTSIDE
                                     && yultarvas_outside(point, 24) == 3);
+    printf("%s\n", yultarvas_why_no_word(YULTARVAS_OUTSIDE, yultarvas_outside(point, 24)));
+    expect("why_no_word",
+           strstr(yultarvas_why_no_word(YULTARVAS_OUTSIDE, 3), "section 3 (coordinates 5, 8, 9") != NULL);
     expect("outside, short", yultarvas_outside(point, 23) == 0);
     expect("word as it was", word == 7);
 }

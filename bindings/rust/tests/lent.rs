@@ -66,6 +66,36 @@ fn why_no_word() {
     assert!(!Refused::NoRoom.no_word());
 }
 
+// The header has the crate's sentences, each in pieces that the compiler joins.
+#[test]
+fn sentences_of_c() {
+    let header = include_str!("../../../include/yultarvas.h");
+    let mut joined = String::new();
+    for line in header.lines() {
+        let piece = line.trim();
+        match (joined.ends_with('"'), piece.strip_prefix('"')) {
+            (true, Some(rest)) => {
+                joined.pop();
+                joined.push_str(rest);
+            }
+            _ => joined.push_str(piece),
+        }
+    }
+    let reasons = [
+        Refused::MixedParity,
+        Refused::NoCodeword,
+        Refused::Outside { section: 1 },
+        Refused::Outside { section: 2 },
+        Refused::Outside { section: 3 },
+        Refused::WrongSum,
+    ];
+    for refused in reasons {
+        let said = refused.to_string();
+        let sentence = said.split(" (refused with").next().unwrap();
+        assert!(joined.contains(&format!("return \"{sentence}\";")), "{sentence}");
+    }
+}
+
 #[test]
 fn numbers() {
     let all = [

@@ -2,7 +2,7 @@
 use mathlib.Core.Path.{_≡_, refl, ap, ap₂, sym, subst, _∙_}
 use mathlib.Core.Bool.{Bool, true, false, not}
 use mathlib.Core.List.{List}
-use Prim.Native.Nat.{ℕ, zero, suc, _+_, _*_, _%_, _<_, _≤_}
+use Prim.Native.Nat.{ℕ, _+_, _*_, _%_, _<_, _≤_}
 use native.Mathlib.Omega.{arith}
 use lib.Dec.{T}
 use lib.IntN.{ℤ, pos}
@@ -28,10 +28,10 @@ use Rattle.rows.specs.declared.Seated.the-variants.{At, Nothing}
 use Rattle.trellis.specs.Trellis.{labelOf}
 use Rattle.tetra.specs.Lattice.{trio, section, sectionRanks, inOwnClass, inBound, HasWord}
 use Rattle.tetra.specs.Encode.{refusedWith, acceptedWith, parityAt, labelFor, fieldsBy, fieldsFor, encodeOf}
-use Rattle.tetra.specs.Why.{OfParity, InCode, Inside, has-word, mixed-parity, no-codeword, outside-bound, wrong-sum}
+use Rattle.tetra.specs.Why.{OfParity, InCode, has-word, mixed-parity, no-codeword, outside-bound, wrong-sum}
 use Rattle.tetra.specs.Laws.Orders.{at-uniform, uniform-at, parity-trio}
 use Rattle.tetra.specs.Laws.Word.{section-size, section-length, code-label, label-code, sum-classes, fields-narrow}
-use Rattle.tetra.specs.Laws.Reason.{answered}
+use Rattle.tetra.specs.Laws.Reason.{each-inside, answered}
 
 -- ---- a row looked up by its marks is found where its ranks are: what meets a bound has no rank above 4
 marks-seat : (u : List ℤ) → length u ≡ 8 → classIndexOf (marksOf u) ≡ classIndexOf (ranksOf u)
@@ -123,12 +123,9 @@ module _ (y : List ℤ) (size : length y ≡ 24) where
         unfolding inBound
         no-second e q =
             sym (answered y size
-            (outside-bound p 1 o c (omega arith) below
+            (outside-bound p 1 o c (omega arith)
+            (each-inside y 1 (omega arith) (λ l. first .0) (λ l. absurd (omega arith)) (λ l. absurd (omega arith)))
             (λ i. not-both (sym e ∙ q) (mixed-index-in (sectionRanks y 1) (section-length y 1 (omega arith)) i .3))))
-          where
-            below : (t : ℕ) → t < 1 → Inside y t
-            below zero l = first .0
-            below (suc t) l = absurd (omega arith)
 
         module _ {d i2 : ℕ} (s1 : mixedIndexOf (sectionRanks y 1) ≡ At d i2) where
           second : T (inMiddle (sectionRanks y 1)) × (class (sectionRanks y 1) ≡ d)
@@ -138,25 +135,14 @@ module _ (y : List ℤ) (size : length y ≡ 24) where
           unfolding inBound
           no-third e q =
               sym (answered y size
-              (outside-bound p 2 o c (omega arith) below
+              (outside-bound p 2 o c (omega arith)
+              (each-inside y 2 (omega arith) (λ l. first .0) (λ l. second .0) (λ l. absurd (omega arith)))
               (λ i. not-both (sym e ∙ q) (class-index-in (sectionRanks y 2) (section-length y 2 (omega arith)) i .3))))
-            where
-              below : (t : ℕ) → t < 2 → Inside y t
-              below zero l = first .0
-              below (suc zero) l = second .0
-              below (suc (suc t)) l = absurd (omega arith)
 
           -- ---- three seats found
           module _ {r3 i3 : ℕ} (s2 : classIndexOf (sectionRanks y 2) ≡ At r3 i3) where
             third : T (inOwnClass (sectionRanks y 2)) × (class (sectionRanks y 2) ≡ r3)
             third = own-seat (sectionRanks y 2) (section-length y 2 (omega arith)) s2
-
-            inside : (t : ℕ) → t < 3 → Inside y t
-            unfolding inBound
-            inside zero l = first .0
-            inside (suc zero) l = second .0
-            inside (suc (suc zero)) l = third .0
-            inside (suc (suc (suc t))) l = absurd (omega arith)
 
             pub classes-lt : (r < 2) × (d < 2) × (r3 < 2)
             classes-lt = (omega (arith, first .1), omega (arith, second .1), omega (arith, third .1))
@@ -172,7 +158,7 @@ module _ (y : List ℤ) (size : length y ≡ 24) where
 
             -- the sum of k is wrong
             pub no-sum : (r3 ≡ (p + r + d) % 2 → ⊥) → refusedWith wrongSum 0 ≡ encodeOf y
-            no-sum n = sym (answered y size (wrong-sum p o c inside (λ e. n (owed (sym sum-read ∙ e)))))
+            no-sum n = sym (answered y size (wrong-sum p o c (each-inside y 3 (omega arith) (λ l. first .0) (λ l. second .0) (λ l. third .0)) (λ e. n (owed (sym sum-read ∙ e)))))
               where
                 owed : (r + d + r3) % 2 ≡ p → r3 ≡ (p + r + d) % 2
                 owed e = omega (arith, classes-lt .2)

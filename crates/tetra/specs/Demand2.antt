@@ -96,25 +96,16 @@ one-reason y e v w =
     (ap (λ (r : Encoded). r .number) q, ap (λ (r : Encoded). r .section) q)
 
 -- a section is told beside 11 alone, and it is 1, 2 or 3
-pub section-told : (y : List ℤ) → length y ≡ 24 → (encodeOf y .number ≡ outside) ↔ (1 ≤ encodeOf y .section)
+pub section-told : (y : List ℤ) → length y ≡ 24
+    → ((encodeOf y .number ≡ outside) ↔ (1 ≤ encodeOf y .section)) × (encodeOf y .section ≤ 3)
 section-told y e = go (why y e)
   where
-    go : {n s : ℕ} → Why y n s → (n ≡ outside) ↔ (1 ≤ s)
-    go (has-word h) = (λ q. omega arith, λ l. omega arith)
-    go (mixed-parity f) = (λ q. omega arith, λ l. omega arith)
-    go (no-codeword p o f) = (λ q. omega arith, λ l. omega arith)
-    go (outside-bound p s o c h f k) = (λ q. omega arith, λ l. refl)
-    go (wrong-sum p o c f k) = (λ q. omega arith, λ l. omega arith)
-
-pub section-small : (y : List ℤ) → length y ≡ 24 → encodeOf y .section ≤ 3
-section-small y e = go (why y e)
-  where
-    go : {n s : ℕ} → Why y n s → s ≤ 3
-    go (has-word h) = omega arith
-    go (mixed-parity f) = omega arith
-    go (no-codeword p o f) = omega arith
-    go (outside-bound p s o c h f k) = omega arith
-    go (wrong-sum p o c f k) = omega arith
+    go : {n s : ℕ} → Why y n s → ((n ≡ outside) ↔ (1 ≤ s)) × (s ≤ 3)
+    go (has-word h) = ((λ q. omega arith, λ l. omega arith), omega arith)
+    go (mixed-parity f) = ((λ q. omega arith, λ l. omega arith), omega arith)
+    go (no-codeword p o f) = ((λ q. omega arith, λ l. omega arith), omega arith)
+    go (outside-bound p s o c h f k) = ((λ q. omega arith, λ l. refl), omega arith)
+    go (wrong-sum p o c f k) = ((λ q. omega arith, λ l. omega arith), omega arith)
 
 -- ---- a point that has no word is refused, by one of the four numbers, and with word 0
 pub record Turned (y : List ℤ) (r : Encoded) : Type 0 where

@@ -13,7 +13,7 @@ ghost use Rattle.rank.specs.Answers.{marksOf};
 ghost use Rattle.rows.specs.Table.{rowRanks, middleRow};
 ghost use Rattle.tetra.specs.Lattice.{trio};
 ghost use Rattle.tetra.specs.Tetra.{trioPoint, trioPointOf, natural, pointOf, patternsOf};
-ghost use Rattle.tetra.specs.Encode.{refusedWith, fieldsBy, encodeOf};
+ghost use Rattle.tetra.specs.Encode.{refusedWith, acceptedWith, fieldsBy, encodeOf};
 ghost use Rattle.tetra.specs.Block.{blockAt};
 
 // The tables, read by a place, and the lookups of rank vectors: the accessors of the Rust's `Tetra`.
@@ -176,6 +176,16 @@ fn refused(number: u32, section: u32) -> Encoded
     }
 }
 
+fn accepted(word: u64) -> Encoded
+    ensures { λ r. ⌜ r ≡ acceptedWith word ⌝ }
+{
+    Encoded {
+        number: 0,
+        section: 0,
+        word,
+    }
+}
+
 // Whether all coordinates have parity `p`.
 fn one_parity(y: [i32; 24], p: u32) -> bool
     ensures { λ r. ⌜ r ≡ uniform p y ⌝ }
@@ -286,11 +296,7 @@ pub fn encode(point: [i32; 24]) -> Encoded
         return refused(refusal::WRONG_SUM, 0);
     }
     let word = word_by(p, x, r, i1, i2, i3);
-    Encoded {
-        number: 0,
-        section: 0,
-        word,
-    }
+    accepted(word)
 }
 
 // ---- a block of a longer list

@@ -226,11 +226,16 @@ word-by-requires c κs =
     read-narrow (point (l k)) (size (start (l k))) (of-parity (l k)) (in-code (k1 k)) (found-first (k2 k)) (found-second (k3 k)) (found2 k)
     (label-at (l k)) (omega (arith, c .if3 .left))
 
+accepted-requires : tie.Need-accepted-requires
+accepted-requires c κs = search needs
+
 returns-7 : tie.Need-returns-7
 returns-7 c =
-    let k = c .before .before in
-    read-word (point (l k)) (size (start (l k))) (of-parity (l k)) (in-code (k1 k)) (found-first (k2 k)) (found-second (k3 k)) (found2 k)
-    (label-at (l k)) (omega (arith, c .before .if3 .left)) (c .word-by .ensures)
+    let w = c .before in
+    let k = w .before .before in
+    c .accepted .ensures
+    ∙ read-word (point (l k)) (size (start (l k))) (of-parity (l k)) (in-code (k1 k)) (found-first (k2 k)) (found-second (k3 k)) (found2 k)
+    (label-at (l k)) (omega (arith, w .before .if3 .left)) (w .word-by .ensures)
 
 pub encode-spec : {M : Type 1} → statement M
 encode-spec =
@@ -269,4 +274,5 @@ encode-spec =
     refused-requires-6
     returns-6
     word-by-requires
+    accepted-requires
     returns-7)

@@ -2,7 +2,7 @@
 use mathlib.Core.Path.{_≡_, refl, sym, subst, _∙_}
 use mathlib.Core.Bool.{Bool, true, false, cond}
 use mathlib.Core.List.{List}
-use Prim.Native.Nat.{ℕ, zero, suc, _<_}
+use Prim.Native.Nat.{ℕ, zero, suc, _<_, _≤_}
 use native.Mathlib.Omega.{arith}
 use lib.Dec.{T, eqb, ltb→lt, lt→ltb, eqb→eq}
 use lib.IntN.{ℤ}
@@ -12,21 +12,23 @@ use Rattle.laws.specs.Laws.Order.{lt-other}
 use Rattle.laws.specs.Words.{modZ}
 use Rattle.refusal.specs.Refusal.{mixedParity, noCodeword, outside, wrongSum}
 use Rattle.word.specs.Word.{wordOf}
+use Rattle.rank.specs.Vector.{inMiddle}
 use Rattle.rank.specs.Section.{bitsOf, kSum}
-use Rattle.tetra.specs.Lattice.{trio, inBound, HasWord}
+use Rattle.tetra.specs.Lattice.{trio, sectionRanks, inOwnClass, inBound, HasWord}
 use Rattle.tetra.specs.Encode.{parityAt, oneParity, labelFor, inCode, rightSum, fieldsFor, encodeOf}
 use Rattle.tetra.specs.Why.{OfParity, InCode, Inside, Why, has-word, mixed-parity, no-codeword, outside-bound, wrong-sum}
 use Rattle.tetra.specs.Laws.Orders.{uniform-at, at-uniform}
 use Rattle.tetra.specs.Laws.Word.{code-label, label-code}
 use Rattle.tetra.specs.declared.Encoded.{Encoded}
 
--- ---- the sections of a point that has a word are within their bounds
-has-inside : (y : List ℤ) → HasWord y → (s : ℕ) → s < 3 → Inside y s
+-- ---- the first n sections are within their bounds: one by one, and together
+pub each-inside : (y : List ℤ) (n : ℕ) → n ≤ 3 → (0 < n → T (inOwnClass (sectionRanks y 0))) → (1 < n → T (inMiddle (sectionRanks y 1)))
+    → (2 < n → T (inOwnClass (sectionRanks y 2))) → (s : ℕ) → s < n → Inside y s
 unfolding inBound
-has-inside y h zero l = h .first
-has-inside y h (suc zero) l = h .second
-has-inside y h (suc (suc zero)) l = h .third
-has-inside y h (suc (suc (suc s))) l = absurd (omega arith)
+each-inside y n h a b c zero l = a l
+each-inside y n h a b c (suc zero) l = b l
+each-inside y n h a b c (suc (suc zero)) l = c l
+each-inside y n h a b c (suc (suc (suc s))) l = absurd (omega arith)
 
 -- ---- the lowest number below n at which a test fails, or none
 data Lowest (n : ℕ) (test : ℕ → Bool) : Type 0 where
@@ -80,25 +82,26 @@ module _ (y : List ℤ) (size : length y ≡ 24) where
   By n s = record { number = n; section = s; word = cond (eqb n 0) (wordOf (fieldsFor y)) 0 }
 
   module _ (p : ℕ) (o : OfParity y p) where
+    one-parity : oneParity y ≡ true
+    one-parity = is-true (oneParity y) (parity-in p o)
+
     at-codeword : (InCode y → ⊥) → encodeOf y ≡ By noCodeword 0
     unfolding encodeOf
-    at-codeword n = rw (is-true (oneParity y) (parity-in p o), is-false (inCode y) (λ t. n (code-out t)))
+    at-codeword n = rw (one-parity, is-false (inCode y) (λ t. n (code-out t)))
 
     module _ (c : InCode y) where
+      in-code : inCode y ≡ true
+      in-code = is-true (inCode y) (code-in c)
+
       at-bound : (s : ℕ) → s < 3 → ((t : ℕ) → t < s → Inside y t) → (Inside y s → ⊥) → encodeOf y ≡ By outside (suc s)
       unfolding encodeOf
-      at-bound zero h f n = rw (is-true (oneParity y) (parity-in p o), is-true (inCode y) (code-in c), is-false (inBound y 0) n)
+      at-bound zero h f n = rw (one-parity, in-code, is-false (inBound y 0) n)
       at-bound (suc zero) h f n =
-          rw (
-            is-true (oneParity y) (parity-in p o),
-            is-true (inCode y) (code-in c),
-            is-true (inBound y 0) (f 0 (omega arith)),
-            is-false (inBound y 1) n,
-          )
+          rw (one-parity, in-code, is-true (inBound y 0) (f 0 (omega arith)), is-false (inBound y 1) n)
       at-bound (suc (suc zero)) h f n =
           rw (
-            is-true (oneParity y) (parity-in p o),
-            is-true (inCode y) (code-in c),
+            one-parity,
+            in-code,
             is-true (inBound y 0) (f 0 (omega arith)),
             is-true (inBound y 1) (f 1 (omega arith)),
             is-false (inBound y 2) n,
@@ -109,8 +112,8 @@ module _ (y : List ℤ) (size : length y ≡ 24) where
       unfolding encodeOf
       at-sum f b q =
           rw (
-            is-true (oneParity y) (parity-in p o),
-            is-true (inCode y) (code-in c),
+            one-parity,
+            in-code,
             is-true (inBound y 0) (f 0 (omega arith)),
             is-true (inBound y 1) (f 1 (omega arith)),
             is-true (inBound y 2) (f 2 (omega arith)),
@@ -125,7 +128,7 @@ module _ (y : List ℤ) (size : length y ≡ 24) where
   answered (has-word h) =
       let q = h .point in
       let e : q .p ≡ parityAt y = sym (q .one-parity 0 (omega arith)) in
-      at-sum (q .p) (q .one-parity) (q .codeword) (has-inside y h) true (is-true (rightSum y) (sum-in (q .sum-of-k ∙ e)))
+      at-sum (q .p) (q .one-parity) (q .codeword) (each-inside y 3 (omega arith) (λ l. h .first) (λ l. h .second) (λ l. h .third)) true (is-true (rightSum y) (sum-in (q .sum-of-k ∙ e)))
   answered (mixed-parity n) = at-parity n
   answered (no-codeword p o n) = at-codeword p o n
   answered (outside-bound p s o c h f n) = at-bound p o c s h f n

@@ -81,7 +81,7 @@ module _ (y : List ℤ) (old : ℕ) where
 -- the section is told beside 11 alone, so that a slice that is too short has none
 pub outside-room : (y : List ℤ) → 24 ≤ length y → (pointNumber y ≡ outside) ↔ (1 ≤ outsideSection y)
 outside-room y h =
-    rw (le-ltb (length y) 24 h) (section-told (take 24 y) (length-take-le 24 y h))
+    rw (le-ltb (length y) 24 h) (section-told (take 24 y) (length-take-le 24 y h) .0)
 
 pub outside-short : (y : List ℤ) → length y < 24 → outsideSection y ≡ 0
 outside-short y h = rw (lt-ltb (length y) 24 h)
