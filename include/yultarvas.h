@@ -37,7 +37,7 @@ extern "C" {
 #define YULTARVAS_VERSION_MAJOR 0
 #define YULTARVAS_VERSION_MINOR 4
 #define YULTARVAS_VERSION_PATCH 0
-#define YULTARVAS_VERSION "0.4.0"
+#define YULTARVAS_VERSION "0.5.0"
 
 /* Samples of a block, coordinates of a point; the most blocks of a page; the most counts of a page; the most
  * bytes of a page's text. */
@@ -152,8 +152,9 @@ uint32_t yultarvas_t_of(const double *samples, size_t samples_len, const int32_t
 
 /* ---- pages */
 
-/* The counts of a page, 24 per block, into counts, and how many blocks it has into blocks.
- * YULTARVAS_PAGE_COUNTS places hold any page. Refused: 9, 8. */
+/* The counts of a page, 24 per block, into counts, and how many blocks it has into blocks. A count is the
+ * coordinate times num / 256, to the nearest whole number, and a half to the even one (since 0.5.0; before, away
+ * from zero). YULTARVAS_PAGE_COUNTS places hold any page. Refused: 9, 8. */
 uint32_t yultarvas_read_page(const uint8_t *text, size_t text_len, int32_t *counts, size_t counts_len,
                              size_t *blocks);
 

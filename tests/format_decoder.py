@@ -200,8 +200,10 @@ def reading(text):
 
 
 def count_of(y, num):
-    n = (abs(y) * num + 128) // 256
-    return -n if y < 0 else n
+    q, r = divmod(abs(y) * num, 256)
+    if r > 128 or (r == 128 and q % 2 == 1):
+        q += 1
+    return -q if y < 0 else q
 
 
 def counts(num, words):

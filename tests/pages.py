@@ -1,8 +1,9 @@
 #!/usr/bin/env python3
-"""Runs the program unpage on pages, good and damaged, and holds it to answers that are worked out here from document 01.
+"""Runs the program unpage on pages, good and damaged, and holds it to answers that are worked out here from documents 01 and 02.
 
     tests/pages.py                  runs the program on every page
     tests/pages.py --oracle ORACLE  also puts each word of the pages to a program over the Rust, which has to decode it as here
+    tests/pages.py --sweep          puts five words at every num to the library's reader, 327,675 pages
     tests/pages.py --write          writes what the gate runs page_runs on, and its answers: crates/page_runs/stdin and stdout
     tests/pages.py --check          says whether those two files are the ones that --write writes
     tests/pages.py --help           prints this
@@ -10,16 +11,19 @@
 From the environment:
     UNPAGE  the program; target/bin/unpage, run by tools/run.sh, where it is not set
     RUN     the command that runs the program, as an emulator and a loader with its options, where it needs one
+    YULTARVAS_LIB  for --sweep: a folder with a libyultarvas.a for this machine; target/native where it is not set
 
 Exit status: 0 all is as it should be; 1 something is not; 2 a wrong argument.
 
-Nothing here is taken from the crates: pages are read by a pattern, words are decoded by the rule of the rows and by the columns.
+Nothing here is taken from the crates: pages are read by a pattern, words are decoded by the rule of the rows and by the columns, and counts are
+exact fractions that Python rounds. The library is called through bindings/rust (its example `read`).
 """
 import os
 import random
 import re
 import subprocess
 import sys
+from fractions import Fraction
 from functools import lru_cache
 
 ROOT = os.path.dirname(os.path.dirname(os.path.abspath(__file__)))
@@ -87,7 +91,7 @@ def point(word):
     return natural
 
 
-# ---- pages: document 01, 'The trace page'
+# ---- pages: document 01, 'The trace page', with the rounding of document 02, 2026-03
 
 PAGE = re.compile(rb"format=tetra-page\nnum=([1-9][0-9]*)\ncount=(0|[1-9][0-9]*)\n((?:word=[0-9a-f]{12}\n)*)")
 
@@ -104,10 +108,8 @@ def reading(text):
 
 
 def count_of(y, num):
-    """y times num divided by 256, halves away from zero."""
-    whole, left = divmod(abs(y) * num, 256)
-    n = whole + (left >= 128)
-    return -n if y < 0 else n
+    """y times num divided by 256, halves to even, which is how Python rounds an exact fraction."""
+    return round(Fraction(y * num, 256))
 
 
 def printed(text):
@@ -215,10 +217,15 @@ def damaged():
 
 # ---- what the gate runs
 
+def halves():
+    """Halves of either sign that go up and down: 1.5 and -4.5; 0.5 to 3.5; 0.5 of a 2, and of a 4."""
+    return [text_of(384, [1]), text_of(128, [0x5CF4F4BEA973]), text_of(64, [256]), text_of(32, [0x3800])]
+
+
 def for_the_gate():
     rng = random.Random(2)
-    return [EXAMPLE, text_of(1, []), text_of(65535, words(rng, 64)), text_of(640, [1, 256]), text_of(129, [(1 << 48) - 1]), EXAMPLE[:-1],
-            EXAMPLE + b"\n", EXAMPLE.replace(b"128", b"0128"), EXAMPLE.replace(b"128", b"0"), EXAMPLE.replace(b"128", b"65536"),
+    return [EXAMPLE, text_of(1, []), text_of(65535, words(rng, 64)), text_of(640, [1, 256]), *halves(), text_of(129, [(1 << 48) - 1]),
+            EXAMPLE[:-1], EXAMPLE + b"\n", EXAMPLE.replace(b"128", b"0128"), EXAMPLE.replace(b"128", b"0"), EXAMPLE.replace(b"128", b"65536"),
             LETTERS.replace(b"abc", b"ABC"), EXAMPLE.replace(b"\n", b"\r\n"), text_of(1, list(range(65))), text_of(1, [0], 2), b""]
 
 
@@ -280,12 +287,44 @@ def program():
     return ["bash", os.path.join(ROOT, "tools", "run.sh"), "unpage"]
 
 
+def sweep():
+    """Every num with five words that have halves of either sign, by the library: number, blocks and counts of each page."""
+    os.environ.setdefault("YULTARVAS_LIB", os.path.join(ROOT, "target", "native"))
+    manifest = os.path.join(ROOT, "bindings", "rust", "Cargo.toml")
+    subprocess.run(["cargo", "build", "--offline", "--release", "--example", "read", "--manifest-path", manifest], check=True)
+    target = os.environ.get("CARGO_TARGET_DIR", os.path.join(ROOT, "bindings", "rust", "target"))
+    points = {word: point(word) for word in (1, 0x100, 0x3800, 0x5CF4F4BEA973, (1 << 48) - 1)}
+    tried, bad, tie_up, tie_down = 0, 0, 0, 0
+    for start in range(1, 65536, 8192):
+        nums = range(start, min(start + 8192, 65536))
+        texts = [text_of(num, [word]).decode().replace("\n", "|") for num in nums for word in points]
+        got = subprocess.run([os.path.join(target, "release", "examples", "read")], input="".join(t + "\n" for t in texts), stdout=subprocess.PIPE,
+                             check=True, text=True).stdout.split("\n")[:-1]
+        wanted = []
+        for num in nums:
+            of = {y: count_of(y, num) for y in {y for ys in points.values() for y in ys}}
+            ties = [y for y in of if abs(2 * y * num) % 512 == 256]
+            tie_up += sum(256 * abs(of[y]) > abs(y) * num for y in ties)
+            tie_down += sum(256 * abs(of[y]) < abs(y) * num for y in ties)
+            wanted += ["0 1 " + ",".join(str(of[y]) for y in points[word]) for word in points]
+        tried += len(got)
+        for t, g, w in zip(texts, got, wanted):
+            if g != w:
+                bad += 1
+                if bad <= 5:
+                    print(f"DIFFERS: {t}\n  wanted {w}\n  got    {g}")
+    print(f"{tried} pages by the library, {bad} differ; of the halves {tie_up} go away from zero and {tie_down} toward it")
+    return bad == 0 and tried == 5 * 65535 and tie_up > 1000 and tie_down > 1000
+
+
 def main(arguments):
     if arguments == ["--help"]:
         print(__doc__)
         return True
     if arguments in (["--write"], ["--check"]):
         return gate(arguments == ["--write"])
+    if arguments == ["--sweep"]:
+        return sweep()
     if arguments and (arguments[0] != "--oracle" or len(arguments) != 2):
         wrong(f"it does not know {' '.join(arguments)}")
     if arguments and not os.access(arguments[1], os.X_OK):
@@ -299,7 +338,7 @@ def main(arguments):
         kind = "refused" if reading(text) is None else "accepted"
         answers[kind] = answers.get(kind, 0) + 1
     print(f"{len(fine)} good pages and {len(broken)} damaged ones: {answers['accepted']} accepted, {answers['refused']} refused, "
-          f"{'all answered as document 01 says' if alike else 'NOT all answered as document 01 says'}")
+          f"{'all answered as the documents say' if alike else 'NOT all answered as the documents say'}")
     return alike
 
 

@@ -23,11 +23,11 @@ ok)
 *) printf 'fn word::get: not proved\nrt: word NOT PROVED (exit 1, 3 s)\nrt: FAILED: word\n'; exit 1 ;;
 esac
 STAND_IN
-# Answers the example of document 01 where the input is that page, and refuses any other; and reads nothing where it is told to.
+# Answers the example page where the input is that page, and refuses any other; and reads nothing where it is told to.
 cat >"$work/repo/target/bin/unpage" <<'STAND_IN'
 #!/usr/bin/env bash
 if [ -n "${FAILS:-}" ]; then echo "unpage: standard input cannot be read" >&2; exit 0; fi
-if grep -q 'count=1'; then echo block=0; echo counts=1,1,1,1,1,1,1,1,1,1,1,1,1,1,1,1,1,1,1,1,1,1,1,-2; else echo refused=9; fi
+if grep -q 'count=1'; then echo block=0; echo counts=0,0,0,0,0,0,0,0,0,0,0,0,0,0,0,0,0,0,0,0,0,0,0,-2; else echo refused=9; fi
 STAND_IN
 # Answers the page of the example where the input is its trace, refuses num=1 with a 4 in block 0, and any other text with 9.
 cat >"$work/repo/target/bin/mkpage" <<'STAND_IN'
@@ -87,12 +87,12 @@ done
 
 untouched 2 'no file no/such.page' bash tools/unpage.sh samples/example.page no/such.page
 untouched 2 'cannot be read' bash tools/unpage.sh samples
-try 0 '^counts=1,1,' bash tools/unpage.sh samples/example.page
+try 0 '^counts=0,0,' bash tools/unpage.sh samples/example.page
 try 0 '^word is proved (13 s)$' bash tools/unpage.sh samples/example.page
 try 0 '^page=samples/example.page$' bash tools/unpage.sh samples/example.page samples/example.page
 try 1 '^refused=9$' bash tools/unpage.sh
 try 1 '^refused=9$' bash tools/unpage.sh no.page
-try 1 '^counts=1,1,' bash tools/unpage.sh no.page samples/example.page
+try 1 '^counts=0,0,' bash tools/unpage.sh no.page samples/example.page
 try 1 'target/unpage.log has what' env RT_SAYS=no bash tools/unpage.sh samples/example.page
 try 1 'word NOT PROVED' env RT_SAYS=no bash tools/unpage.sh samples/example.page
 try 1 'cannot be read' env FAILS=1 bash tools/unpage.sh samples/example.page

@@ -56,7 +56,7 @@ def many():
 
 
 def long_trace():
-    """A trace of 64 blocks and its page: zeros, and the counts of document 01's example, in a random order."""
+    """A trace of 64 blocks and its page: zeros, and 23 ones with a -2, in a random order."""
     rng = random.Random(4)
     some = [(",".join(["0"] * 24), 0), (",".join(["1"] * 23 + ["-2"]), 0x09B800F00100)]
     drawn = [rng.choice(some) for _ in range(64)]

@@ -105,7 +105,7 @@ static void pages(void) {
     uint32_t num = 7;
     const uint8_t *t = (const uint8_t *)text;
     expect("read_page", yultarvas_read_page(t, strlen(text), counts, 24, &blocks) == YULTARVAS_OK
-                            && blocks == 1 && counts[0] == 1 && counts[23] == -2);
+                            && blocks == 1 && counts[0] == 0 && counts[23] == -2);
     expect("read_page, cut off",
            yultarvas_read_page(t, strlen(text) - 1, counts, 24, &blocks) == YULTARVAS_NO_PAGE && blocks == 1);
     expect("parse_page",

@@ -181,9 +181,10 @@ pub fn t_of(samples: &[f64; BLOCK], point: &[i32; BLOCK]) -> Result<f64, Refused
     Refused::unless(number, score)
 }
 
-/// The counts of a page into `counts`, [`BLOCK`] per block, and how many blocks it has. [`PAGE_COUNTS`]
-/// places hold any page. Refused with [`Refused::NoPage`], else [`Refused::NoRoom`], and then `counts` is as
-/// it was.
+/// The counts of a page into `counts`, [`BLOCK`] per block, and how many blocks it has. A count is the
+/// coordinate times num / 256, to the nearest whole number, and a half to the even one (since 0.5.0; before,
+/// away from zero). [`PAGE_COUNTS`] places hold any page. Refused with [`Refused::NoPage`], else
+/// [`Refused::NoRoom`], and then `counts` is as it was.
 pub fn read_page(text: &[u8], counts: &mut [i32]) -> Result<usize, Refused> {
     let mut blocks = 0;
     let number = unsafe {

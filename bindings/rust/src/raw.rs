@@ -61,7 +61,7 @@ extern "C" {
         point_len: usize,
         score: *mut f64,
     ) -> u32;
-    /// The counts of a page.
+    /// The counts of a page, halves to even.
     pub fn yultarvas_read_page(
         text: *const u8,
         text_len: usize,

@@ -165,7 +165,7 @@ fn longer_slices() {
     assert_eq!(largest, 4.1);
     let mut counts = [9; 30];
     assert_eq!(read_page(PAGE, &mut counts), Ok(1));
-    assert_eq!((counts[0], counts[23]), (1, -2));
+    assert_eq!((counts[0], counts[23]), (0, -2));
     assert_eq!(counts[24..], [9; 6]);
     let (mut num, mut words, mut count) = (0, [9; 3], 0);
     let got = unsafe {

@@ -1,3 +1,4 @@
+pub mod Nearest
 pub mod Count
 pub mod Reader
 pub mod Lines

@@ -6,6 +6,8 @@ pub mod Form
 -- the reader as a definition, and the page rule: it accepts just the pages
 pub mod Reader
 pub mod PageRule
+-- the count rule: halves go to the even number
+pub mod CountRule
 -- what `form` answers, and that it is the inverse of `parse`
 pub mod FormRule
 -- their proofs

@@ -1,26 +1,35 @@
-// Words in counts: coordinate times num divided by 256, halves away from zero.
+// Words in counts: coordinate times num divided by 256, halves to even.
 use text::magnitude;
 ghost use mathlib.Core.Path.{_≡_};
-ghost use Prim.Native.Nat.{_+_, _*_, _≤_};
+ghost use Prim.Native.Nat.{_+_, _*_, _^_, _<_, _≤_};
 ghost use lib.ListN.{length, take};
 ghost use lib.IntN.{natAbs};
 ghost use lib.Seq.{sets};
-ghost use Rattle.page.specs.Counts.{nearest as Counts·nearest, countOf, blockCounts, pageCounts};
+ghost use Rattle.page.specs.Counts.{nearest as Counts·nearest, countBy, blockCounts, pageCounts};
 
-// A magnitude in counts, a half upward.
-fn nearest(m: u64, num: u32) -> u64
-    requires { ⌜ (m ≤ 10) × (num ≤ 65535) ⌝ }
-    ensures { λ r. ⌜ (r ≡ Counts·nearest (m * num) 256) × (r ≤ 2560) ⌝ }
+// A fraction as the nearest whole number, a half to the even one. Twice the rest is compared with the
+// divisor, since half of an odd divisor is no whole number.
+fn nearest(n: u64, d: u64) -> u64
+    requires { ⌜ (n < 2 ^ 32) × (0 < d) × (d < 2 ^ 32) ⌝ }
+    ensures { λ r. ⌜ (r ≡ Counts·nearest n d) × (r ≤ n + 1) ⌝ }
 {
-    (m * (num as u64) + 128) / 256
+    let q = n / d;
+    let twice = n % d * 2;
+    if twice < d {
+        return q;
+    }
+    if d < twice {
+        return q + 1;
+    }
+    q + q % 2
 }
 
-// A coordinate in counts: its magnitude is rounded, and its sign put back.
-fn count_of(y: i32, num: u32) -> i32
-    requires { ⌜ (natAbs y ≤ 10) × (num ≤ 65535) ⌝ }
-    ensures { λ r. ⌜ r ≡ countOf num y ⌝ }
+// A coordinate in counts, where a count is a d-th part of a: its magnitude is rounded, and its sign put back.
+fn count_by(y: i32, a: u32, d: u32) -> i32
+    requires { ⌜ (natAbs y ≤ 10) × (a < 2 ^ 24) × (0 < d) ⌝ }
+    ensures { λ r. ⌜ r ≡ countBy a d y ⌝ }
 {
-    let n = nearest(magnitude(y), num) as i32;
+    let n = nearest(magnitude(y) * (a as u64), d as u64) as i32;
     if y < 0 {
         return -n;
     }
@@ -34,7 +43,7 @@ fn put_block(out: &mut [i32], at: usize, word: u64, num: u32)
 {
     let point = tetra::decode(word);
     for j in 0..24usize {
-        out[at + j] = count_of(point[j], num);
+        out[at + j] = count_by(point[j], num, 256);
     }
 }
 

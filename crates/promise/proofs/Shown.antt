@@ -2,20 +2,21 @@
 -- nothing.
 use mathlib.Core.Path.{_≡_, refl, sym, ap, subst, _∙_}
 use mathlib.Core.Bool.{Bool, true, false, cond, true≢false}
-use mathlib.Core.Logic.{_≢_}
+use mathlib.Core.Logic.{_≢_, _⊎_, inl, inr}
 use mathlib.Core.List.{List, [], _∷_}
-use Prim.Native.Nat.{ℕ, zero, suc, _^_, _<_}
+use Prim.Native.Nat.{ℕ, zero, suc, _+_, _*_, _^_, _<_, _≤_}
 use native.Mathlib.Omega.{arith}
 use borrow.Author.Tests.{eq-eqb, ne-eqb}
 use lib.Dec.{T}
-use lib.IntN.{ℤ}
-use lib.ListN.{length, getD}
+use lib.IntN.{ℤ, pos, _*ℤ_}
+use lib.ListN.{length, getD, drop, List·getD-append}
 use lib.Ieee.{Float, nan, inf, fin, binary64, fits, eq}
 use lib.Ieee.Scale.{finite}
 use mir.Val.{Val}
 use denote.Shadow.{shadow}
 use denote.Array.{each}
 use denote.Floats.{FloatOf}
+use Rattle.laws.specs.Laws.Order.{le-or-lt}
 use Rattle.tetra.specs.Lattice.{HasWord}
 use Rattle.tetra.specs.Tetra.{pointOf}
 use Rattle.tetra.specs.Encode.{encodeOf}
@@ -45,6 +46,9 @@ use Rattle.page.specs.Answer.{Reading, page, malformed, numberIn, wordsIn, coun
 use Rattle.shown.specs.Shown.{printed, inArray}
 use Rattle.page.specs.Reader.{readingOf}
 use Rattle.page.specs.Page.{Page}
+use Rattle.page.specs.Counts.{pageCounts, ToEven}
+use Rattle.page.specs.CountRule.{counts-are}
+use Rattle.page.specs.Laws.Count.{page-length}
 use Rattle.page.specs.PageRule.{accepted, only-pages, reads, one-reading}
 use Rattle.page.specs.PageRule.{on-no-page, on-short-buffer, on-page}
 use Rattle.promise.specs.Demands.{
@@ -67,6 +71,7 @@ use Rattle.promise.specs.Demands.{
   ParsesPages,
   ParsesNoOther,
   ReadsPages,
+  RoundsToEven,
   RefusesNoPage,
   RefusesShort,
   AcceptsPagesOnly,
@@ -244,18 +249,36 @@ of-print text r q = (
   λ h. q ∙ ap (λ (a : Reading). inArray (printed a)) (no-page text h),
 )
 
+-- what is accepted had room, so the counts stand at the buffer's start
+counts-round : (text : List ℕ) (old new : List ℤ) (r : PageRead) → r ≡ readOf (readingOf text) (length old)
+    → new ≡ cellsOf (readingOf text) old → RoundsToEven text new r
+counts-round text old new r q d z num words p i j h k = go (le-or-lt (24 * length words) (length old))
+  where
+    go : (24 * length words ≤ length old) ⊎ (length old < 24 * length words)
+        → ToEven (getD (pointOf (getD words i 0)) j (pos 0) *ℤ pos num) 256 (getD new (24 * i + j) (pos 0))
+    go (inl l) =
+        let e = List·getD-append (pageCounts num words) (drop (24 * length words) old) (pos 0) (24 * i + j)
+        (omega (arith, page-length num words)) in
+        rw (d, on-page text old num words p l .1, e) (counts-are num words i j h k)
+    go (inr l) =
+        let e : _≡_ {A = ℕ} 8 0 = sym (ap (λ (a : PageRead). a .number) (q ∙ on-short-buffer text old num words p l .0)) ∙ z in
+        absurd (omega arith)
+
 pub of-page : (text : List ℕ) (old new : List ℤ) (r : PageRead) → r ≡ readOf (readingOf text) (length old)
     → new ≡ cellsOf (readingOf text) old
-    → ReadsPages text old new r
-    × (RefusesNoPage text old new r × (RefusesShort text old new r × AcceptsPagesOnly text r))
+    → ReadsPages text old new r × (RoundsToEven text new r
+    × (RefusesNoPage text old new r × (RefusesShort text old new r × AcceptsPagesOnly text r)))
 unfolding readOf numberIn
 of-page text old new r q d = (
   λ num words p h. let a = on-page text old num words p h in (q ∙ a .0, d ∙ a .1),
   (
-    λ h. let a = on-no-page text old h in (q ∙ a .0, d ∙ a .1),
+    counts-round text old new r q d,
     (
-      λ num words p h. let a = on-short-buffer text old num words p h in (q ∙ a .0, d ∙ a .1),
-      λ h. go (readingOf text) refl (λ z. h (ap (λ (a : PageRead). a .number) q ∙ z)),
+      λ h. let a = on-no-page text old h in (q ∙ a .0, d ∙ a .1),
+      (
+        λ num words p h. let a = on-short-buffer text old num words p h in (q ∙ a .0, d ∙ a .1),
+        λ h. go (readingOf text) refl (λ z. h (ap (λ (a : PageRead). a .number) q ∙ z)),
+      ),
     ),
   ),
 )

@@ -18,6 +18,7 @@
 --   the double nearest to an exact root        `NearestRoot`                          root/specs/Root
 --   a page: its text, its num and its words    `Page`                                 page/specs/Page
 --   its counts                                 `pageCounts`                           page/specs/Counts
+--   z / d as the nearest whole number          `ToEven`                               page/specs/Counts
 --   what is printed, in an array               `blockTexts`, `inArray`                shown/specs/Shown
 --   and of a refusal                           `refusedText`                          text/specs/Text
 --   the text of a page                         `pageText`                             page/specs/Page
@@ -33,7 +34,7 @@ use mathlib.Core.Logic.{_≢_, _↔_, _⊎_}
 use mathlib.Core.List.{List, _++_, map}
 use Prim.Native.Nat.{ℕ, _+_, _*_, _-_, _%_, _^_, _<_, _≤_}
 use lib.Dec.{T}
-use lib.IntN.{ℤ}
+use lib.IntN.{ℤ, pos, _*ℤ_}
 use lib.Ieee.{Float}
 use lib.Ieee.Scale.{finite}
 use lib.ListN.{length, getD, take, drop, replicate}
@@ -57,7 +58,7 @@ use Rattle.page.specs.declared.PageRead.{PageRead}
 use Rattle.page.specs.declared.Formed.{Formed}
 use Rattle.shown.specs.declared.Printed.{Printed}
 use Rattle.page.specs.Page.{Page, pageText}
-use Rattle.page.specs.Counts.{pageCounts}
+use Rattle.page.specs.Counts.{pageCounts, ToEven}
 use Rattle.text.specs.Text.{refusedText}
 use Rattle.shown.specs.Shown.{blockTexts, inArray}
 use Rattle.writer.specs.declared.Written.{Written}
@@ -179,6 +180,13 @@ abbrev pub ReadsPages : List ℕ → List ℤ → List ℤ → PageRead → Type
 ReadsPages text old new r = (num : ℕ) (words : List ℕ) → Page text num words → 24 * length words ≤ length old
     → (r ≡ record { number = 0; count = length words })
     × (new ≡ pageCounts num words ++ drop (24 * length words) old)
+
+-- Each count is coordinate times num divided by 256 as the nearest whole number, a half to the even one (request
+-- 2026-03): that of coordinate j of block i stands at place 24 i + j of the buffer.
+abbrev pub RoundsToEven : List ℕ → List ℤ → PageRead → Type 0
+RoundsToEven text new r = r .number ≡ 0 → (num : ℕ) (words : List ℕ) → Page text num words
+    → (i j : ℕ) → i < length words → j < 24
+    → ToEven (getD (pointOf (getD words i 0)) j (pos 0) *ℤ pos num) 256 (getD new (24 * i + j) (pos 0))
 
 -- (demand 1) It answers a text that is no page by number 9 and count 0, and the buffer is untouched;
 abbrev pub RefusesNoPage : List ℕ → List ℤ → List ℤ → PageRead → Type 0

@@ -17,7 +17,7 @@ ghost use Rattle.promise.specs.Demands.{ParsesPages, ParsesNoOther, Prin
 ghost use Rattle.promise.specs.Demands.{FormsPages, FormsPage, RefusesToForm};
 ghost use Rattle.promise.specs.Demands.{WritesPage, CodesBlocks, WritesNearest, RefusesToWrite, WritesOthers};
 ghost use Rattle.promise.specs.Demands.{MakesPages, MakesNoOther};
-ghost use Rattle.promise.specs.Demands.{ReadsPages, RefusesNoPage, RefusesShort, AcceptsPagesOnly};
+ghost use Rattle.promise.specs.Demands.{ReadsPages, RoundsToEven, RefusesNoPage, RefusesShort, AcceptsPagesOnly};
 use encoder::Code;
 use made::Made;
 use page::Formed;
@@ -156,6 +156,7 @@ pub fn parsed_page(text: &[u8]) -> Parsed
 // `read`.
 pub fn from_page(text: &[u8], out: &mut [i32]) -> PageRead
     ensures { λ r. ⌜ ReadsPages (now (text .entry)) (now (out .entry)) (now (out .exit)) r ⌝ }
+    ensures { λ r. ⌜ RoundsToEven (now (text .entry)) (now (out .exit)) r ⌝ }
     ensures { λ r. ⌜ RefusesNoPage (now (text .entry)) (now (out .entry)) (now (out .exit)) r ⌝ }
     ensures { λ r. ⌜ RefusesShort (now (text .entry)) (now (out .entry)) (now (out .exit)) r ⌝ }
     ensures { λ r. ⌜ AcceptsPagesOnly (now (text .entry)) r ⌝ }

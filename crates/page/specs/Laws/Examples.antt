@@ -1,12 +1,14 @@
 -- Document 01's example of a page, and the limits of a page, computed from texts written out: so no key, figure or limit can become another in
 -- the definitions and in the code together. Assumes nothing.
 use mathlib.Core.Path.{_≡_, refl}
-use mathlib.Core.List.{List, [], _∷_, _++_}
+use mathlib.Core.List.{List, [], _∷_, _++_, map}
 use Prim.Native.Nat.{ℕ, zero, suc, _-_, _^_}
+use lib.IntN.{pos, negsuc}
 use lib.ListN.{replicate}
 use Rattle.text.specs.Text.{bytes, decimal, hex}
 use Rattle.text.specs.Lines.{begins, digitAt, hexAt, decimalAt, decimalLineAt}
 use Rattle.page.specs.Page.{formatLine, numLine, countLine, wordLine, wordLines, pageText}
+use Rattle.page.specs.Counts.{countBy, countOf}
 use Rattle.page.specs.Answer.{page, malformed}
 use Rattle.page.specs.Form.{isNum, formText, formNumber, formedOf, formIn}
 use Rattle.page.specs.Reader.{formatAt, wordLineAt, wordsAt, countAt, numAt, readingOf}
@@ -28,6 +30,12 @@ example-formed = refl
 pub example-in : formIn 128 1 (1 ∷ replicate 63 0) (replicate 53 7) ≡ example ++ (7 ∷ [])
 unfolding formIn formNumber isNum formText pageText formatLine numLine countLine wordLines wordLine decimal hex
 example-in = refl
+
+-- ---- halves of either sign go to the even number: 0.5, 1.5, 2.5, 3.5 and their opposites
+pub halves : map (countOf 128) (pos 1 ∷ pos 3 ∷ pos 5 ∷ pos 7 ∷ negsuc 0 ∷ negsuc 2 ∷ negsuc 4 ∷ negsuc 6 ∷ [])
+    ≡ pos 0 ∷ pos 2 ∷ pos 2 ∷ pos 4 ∷ pos 0 ∷ negsuc 1 ∷ negsuc 1 ∷ negsuc 3 ∷ []
+unfolding countBy
+halves = refl
 
 -- ---- num is 1 to 65535
 pub least-num : readingOf (bytes "format=tetra-page\nnum=1\ncount=0\n") ≡ page 1 []

@@ -12,8 +12,8 @@ use Rattle.trace.specs.Answer.{trace, malformed}
 use Rattle.trace.specs.Reader.{blockAt, blocksAt, traceIn}
 
 -- ---- what unpage prints of document 01's page, behind its num line
-pub example-reads : traceIn (bytes "num=128\nblock=0\ncounts=1,1,1,1,1,1,1,1,1,1,1,1,1,1,1,1,1,1,1,1,1,1,1,-2\n")
-    ≡ trace 128 1 (replicate 23 (pos 1) ++ (negsuc 1 ∷ []))
+pub example-reads : traceIn (bytes "num=128\nblock=0\ncounts=0,0,0,0,0,0,0,0,0,0,0,0,0,0,0,0,0,0,0,0,0,0,0,-2\n")
+    ≡ trace 128 1 (replicate 23 (pos 0) ++ (negsuc 1 ∷ []))
 unfolding traceIn blocksAt blockAt listLineAt numbersFrom signedAt belowAt decimalLineAt decimalAt begins
 example-reads = refl
 

@@ -33,11 +33,11 @@ decode-requires c κs = search needs
 loop-holds : tie.Need-loop-holds Inv-loop μ-loop
 loop-holds c = (omega arith, refl, rw add-zero)
 
-mul-count-of : tie.Need-mul-count-of Inv-loop μ-loop
-mul-count-of c = search needs
+mul-count-by : tie.Need-mul-count-by Inv-loop μ-loop
+mul-count-by c = search needs
 
-array-copy-out-count-of : tie.Need-array-copy-out-count-of Inv-loop μ-loop
-array-copy-out-count-of c = search needs
+array-copy-out-count-by : tie.Need-array-copy-out-count-by Inv-loop μ-loop
+array-copy-out-count-by c = search needs
 
 -- the coordinate at j is one of the word's point
 coordinate : (c : tie.In-loop Inv-loop μ-loop) → natAbs (getD (c .before .before .decode .result) (c .before .loop .j) (pos 0)) ≤ 10
@@ -48,8 +48,12 @@ back : (c : tie.In-loop Inv-loop μ-loop)
     toZ w32 (ofZ w32 y) ≡ y
 back c = toZ-ofZ (small-fits _ (coordinate c))
 
-count-of-requires : tie.Need-count-of-requires Inv-loop μ-loop
-count-of-requires c κs = (rw (back (c .before)) (coordinate (c .before)), c .before .before .before .before .pre .1)
+count-by-requires : tie.Need-count-by-requires Inv-loop μ-loop
+count-by-requires c κs = (
+  rw (back (c .before)) (coordinate (c .before)),
+  omega (arith, c .before .before .before .before .pre .1),
+  omega arith,
+)
 
 add-t14 : tie.Need-add-t14 Inv-loop μ-loop
 add-t14 c = search needs
@@ -72,11 +76,11 @@ loop-again c =
     let p = c .before .before .before .before .decode .result in
     let a = c .before .before .before .before .before .args in
     let n : length p ≡ 24 = search needs in
-    let f : SFits w32 (c .count-of .result) = search needs in
+    let f : SFits w32 (c .count-by .result) = search needs in
     let vs = map (countOf (a .num)) p in
     let m : length vs ≡ 24 = length-map p (countOf (a .num)) ∙ n in
-    let e : toZ w32 (ofZ w32 (c .count-of .result)) ≡ getD vs (l .j) (countOf (a .num) (pos 0)) =
-    toZ-ofZ f ∙ c .count-of .ensures ∙ ap (countOf (a .num)) (back (c .before .before))
+    let e : toZ w32 (ofZ w32 (c .count-by .result)) ≡ getD vs (l .j) (countOf (a .num) (pos 0)) =
+    toZ-ofZ f ∙ c .count-by .ensures ∙ ap (countOf (a .num)) (back (c .before .before))
     ∙ sym (List·getD-map (countOf (a .num)) p (l .j) (pos 0)) in (
       omega arith,
       simp length-set (l .inv .1),
@@ -105,9 +109,9 @@ put-block-spec =
     μ-loop
     decode-requires
     loop-holds
-    mul-count-of
-    array-copy-out-count-of
-    count-of-requires
+    mul-count-by
+    array-copy-out-count-by
+    count-by-requires
     add-t14
     mul-t15
     slice-set-from-out
