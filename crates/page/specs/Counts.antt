@@ -32,7 +32,7 @@ unfoldable pub pageCounts : ℕ → List ℕ → List ℤ
 pageCounts num [] = []
 pageCounts num (w ∷ ws) = blockCounts num w ++ pageCounts num ws
 
--- The same said with no computation: c is off z / d by at most a half, and even where it is off by just a half. The distance is counted
--- in parts of which d are one. Specs/CountRule shows that each count is that, and that no other number is.
+-- The same said with no computation: c is off z / d by at most a half, and even where it is off by just a half. Both sides are times 2 d.
+-- CountRule shows that each count is that, and that no other number is.
 abbrev pub ToEven : ℤ → ℕ → ℤ → Type 0
 ToEven z d c = (2 * natAbs (c *ℤ pos d -ℤ z) ≤ d) × (2 * natAbs (c *ℤ pos d -ℤ z) ≡ d → natAbs c % 2 ≡ 0)

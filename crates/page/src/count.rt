@@ -24,7 +24,7 @@ fn nearest(n: u64, d: u64) -> u64
     q + q % 2
 }
 
-// A coordinate in counts, where a count is a d-th part of a: its magnitude is rounded, and its sign put back.
+// A coordinate in counts, coordinate times a divided by d: its magnitude is rounded, and its sign put back.
 fn count_by(y: i32, a: u32, d: u32) -> i32
     requires { ⌜ (natAbs y ≤ 10) × (a < 2 ^ 24) × (0 < d) ⌝ }
     ensures { λ r. ⌜ r ≡ countBy a d y ⌝ }

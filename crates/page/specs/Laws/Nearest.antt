@@ -1,5 +1,5 @@
--- A fraction rounded to the nearest whole number, a half to the even one, for every divisor: what is rounded so, is at most a half off, and
--- even on a half; and no other number is. First for magnitudes, then with a sign. Assumes nothing.
+-- A fraction rounded to the nearest whole number, a half to the even one, for every divisor: it is at most a half off, and even on a half; and
+-- no other number is both. First for magnitudes, then with a sign. Assumes nothing.
 use mathlib.Core.Path.{_≡_, refl, sym, ap, _∙_}
 use Prim.Native.Nat.{ℕ, zero, suc, _+_, _-_, _*_, _/_, _%_, _<_, _≤_, compare, Ordering, Ordering·lt, Ordering·eq, Ordering·gt}
 use native.Mathlib.Omega.{arith}
