@@ -52,6 +52,9 @@ fn examples() {
     assert_eq!(write_page(256, 1, &four, &mut [0; 51]), at(Refused::NoRoom, 0));
     assert_eq!(write_page(256, 1, &four, &mut [0; 52]), Ok(52));
     assert_eq!(written(128, 1, &ones), page(128, &["09b800f00100"]));
+    // the trace that docs/FORMAT.md shows: what is read of the page of this num and word
+    let twos: [i32; 24] = std::array::from_fn(|j| if j < 23 { 2 } else { -4 });
+    assert_eq!(written(384, 1, &twos), page(384, &["000000000001"]));
     let both = [ramp.clone(), down].concat();
     assert_eq!(
         written(65535, 2, &both),
