@@ -17,7 +17,7 @@
  * No call allocates or locks; of the host it uses memcpy, memmove and memset alone.
  *
  * Stack. yultarvas_encode, yultarvas_encode_with, yultarvas_encode_at_scale and yultarvas_write_page take
- * up to 121 KB of stack (120,816 bytes on aarch64), the other calls up to 19 KB. No theorem bounds the stack:
+ * up to 121 KB of stack (120,816 bytes on aarch64), the other calls up to 20 KB. No theorem bounds the stack:
  * tools/stack.sh measures it. Have YULTARVAS_STACK bytes left.
  *
  * Doubles. The contracts are over IEEE 754 doubles, rounded to nearest with ties to even, subnormal numbers
@@ -35,16 +35,17 @@ extern "C" {
 
 /* The version of this header and of the calls that it declares. */
 #define YULTARVAS_VERSION_MAJOR 0
-#define YULTARVAS_VERSION_MINOR 4
+#define YULTARVAS_VERSION_MINOR 6
 #define YULTARVAS_VERSION_PATCH 0
-#define YULTARVAS_VERSION "0.5.0"
+#define YULTARVAS_VERSION "0.6.0"
 
 /* Samples of a block, coordinates of a point; the most blocks of a page; the most counts of a page; the most
- * bytes of a page's text. */
+ * bytes of a page's text; the most cells of a page's summary. */
 #define YULTARVAS_BLOCK 24
 #define YULTARVAS_PAGE_BLOCKS 64
 #define YULTARVAS_PAGE_COUNTS 1536
 #define YULTARVAS_PAGE_TEXT 1189
+#define YULTARVAS_PAGE_SUMMARY 260
 
 /* Bytes of stack that a thread should have left for any one call: more than twice what was measured. */
 #define YULTARVAS_STACK 327680
@@ -62,8 +63,9 @@ enum yultarvas_number {
     YULTARVAS_NO_PAGE = 9,         /* the text is no page; or there are too many blocks for one */
     YULTARVAS_NO_CODEWORD = 10,    /* no word: the coordinates that are 2 or 3 modulo 4 are no codeword */
     YULTARVAS_OUTSIDE = 11,        /* no word: a section is outside its bound; yultarvas_outside says which */
-    YULTARVAS_WRONG_SUM = 12       /* no word: the sum of the coordinates' quarters is odd and they are even,
+    YULTARVAS_WRONG_SUM = 12,      /* no word: the sum of the coordinates' quarters is odd and they are even,
                                       or even and they are odd */
+    YULTARVAS_DISAGREES = 14       /* the summary and the page disagree */
 };
 
 /* What yultarvas_environment answers. */
@@ -153,8 +155,8 @@ uint32_t yultarvas_t_of(const double *samples, size_t samples_len, const int32_t
 /* ---- pages */
 
 /* The counts of a page, 24 per block, into counts, and how many blocks it has into blocks. A count is the
- * coordinate times num / 256, to the nearest whole number, and a half to the even one (since 0.5.0; before, away
- * from zero). YULTARVAS_PAGE_COUNTS places hold any page. Refused: 9, 8. */
+ * coordinate times num / 256, to the nearest whole number, and a half to the even one (since 0.5.0; before,
+ * away from zero). YULTARVAS_PAGE_COUNTS places hold any page. Refused: 9, 8. */
 uint32_t yultarvas_read_page(const uint8_t *text, size_t text_len, int32_t *counts, size_t counts_len,
                              size_t *blocks);
 
@@ -181,6 +183,38 @@ static inline uint32_t yultarvas_number_of(uint64_t answer) {
 static inline size_t yultarvas_block_of(uint64_t answer) {
     return (size_t)(answer >> 32);
 }
+
+/* ---- a summary beside a page
+ *
+ * A summary has rows of 4 cells: first the page's row, then one for each block. A block's row has the sum of
+ * squares of the coordinates of its point, the largest coordinate, the smallest one, and the parity p, which
+ * is bit 0 of the word. The page's row has the total of those sums, the largest and the smallest coordinate
+ * over all blocks, and how many blocks have p = 1; of a page with no blocks it is all zeros. Neither num nor
+ * bit 47 of a word changes anything in it.
+ *
+ * So the summary of a page with n blocks has 4 (n + 1) cells. It stands at a slice's start; cells behind it
+ * are neither read nor written. YULTARVAS_PAGE_SUMMARY cells hold that of any page. */
+
+/* The summary of a page into rows, and how many blocks the page has into blocks. Refused: 9, 8. */
+uint32_t yultarvas_summarise(const uint8_t *text, size_t text_len, int32_t *rows, size_t rows_len,
+                             size_t *blocks);
+
+/* Whether rows begin with the summary of the page: YULTARVAS_OK where they do. Refused: 9; 8 for fewer cells
+ * than the summary has; 14 where a cell is another. */
+uint32_t yultarvas_check_summary(const uint8_t *text, size_t text_len, const int32_t *rows, size_t rows_len);
+
+/* Brings the summary of a page up to date for one word more, of which the low 48 bits count: what is left in
+ * rows is the summary of the page with that word behind the others, and how many blocks that page has is put
+ * into blocks. The page's row and the new block's row are written, and no other cell. Refused: 9 for a text
+ * that is no page or a page of 64 blocks; 8 for fewer cells than the longer summary has, 4 (n + 2) for a page
+ * of n blocks; 14 where rows do not begin with the page's summary.
+ *
+ * The text is not changed. The longer page's text is the caller's to make, with one more in its count line
+ * and a word line more (yultarvas_parse_page gives num and the words), and it is what the next call takes.
+ * With the text of before, this call and yultarvas_check_summary then answer 14, unless the word's point is
+ * all zeros, which can leave the page's row as it was. */
+uint32_t yultarvas_add_word(const uint8_t *text, size_t text_len, uint64_t word, int32_t *rows,
+                            size_t rows_len, size_t *blocks);
 
 /* ---- the environment */
 

@@ -23,11 +23,16 @@ ok)
 *) printf 'fn word::get: not proved\nrt: word NOT PROVED (exit 1, 3 s)\nrt: FAILED: word\n'; exit 1 ;;
 esac
 STAND_IN
-# Answers the example page where the input is that page, and refuses any other; and reads nothing where it is told to.
+# These answer the example page where the input is that page, and refuse any other; and read nothing where they are told to.
 cat >"$work/repo/target/bin/unpage" <<'STAND_IN'
 #!/usr/bin/env bash
 if [ -n "${FAILS:-}" ]; then echo "unpage: standard input cannot be read" >&2; exit 0; fi
 if grep -q 'count=1'; then echo block=0; echo counts=0,0,0,0,0,0,0,0,0,0,0,0,0,0,0,0,0,0,0,0,0,0,0,-2; else echo refused=9; fi
+STAND_IN
+cat >"$work/repo/target/bin/sizes" <<'STAND_IN'
+#!/usr/bin/env bash
+if [ -n "${FAILS:-}" ]; then echo "sizes: standard input cannot be read" >&2; exit 0; fi
+if grep -q 'count=1'; then printf '%s\n' blocks=1 sum=32 largest=1 smallest=-3 odd=1 block=0 sum=32 largest=1 smallest=-3 odd=1; else echo refused=9; fi
 STAND_IN
 # Answers the page of the example where the input is its trace, refuses num=1 with a 4 in block 0, and any other text with 9.
 cat >"$work/repo/target/bin/mkpage" <<'STAND_IN'
@@ -79,7 +84,7 @@ for script in tools/*.sh tools/nearest/*.sh tests/*.sh; do
     untouched 0 "bash $script" bash "$script" --help
     untouched 2 "bash $script" bash "$script" --no-such-option
 done
-for script in tools/float_vectors.py tests/pages.py tests/points.py tests/writes.py tests/written.py; do
+for script in tools/float_vectors.py tests/pages.py tests/points.py tests/summary.py tests/writes.py tests/written.py; do
     untouched 0 "$script" python3 "$script" --help
     untouched 2 "$script" python3 "$script" --no-such-option
     untouched 2 "$script" python3 "$script" word
@@ -96,6 +101,18 @@ try 1 '^counts=0,0,' bash tools/unpage.sh no.page samples/example.page
 try 1 'target/unpage.log has what' env RT_SAYS=no bash tools/unpage.sh samples/example.page
 try 1 'word NOT PROVED' env RT_SAYS=no bash tools/unpage.sh samples/example.page
 try 1 'cannot be read' env FAILS=1 bash tools/unpage.sh samples/example.page
+
+untouched 2 'no file no/such.page' bash tools/sizes.sh samples/example.page no/such.page
+untouched 2 'cannot be read' bash tools/sizes.sh samples
+try 0 '^smallest=-3$' bash tools/sizes.sh samples/example.page
+try 0 '^word is proved (13 s)$' bash tools/sizes.sh samples/example.page
+try 0 '^page=samples/example.page$' bash tools/sizes.sh samples/example.page samples/example.page
+try 1 '^refused=9$' bash tools/sizes.sh
+try 1 '^refused=9$' bash tools/sizes.sh no.page
+try 1 '^smallest=-3$' bash tools/sizes.sh no.page samples/example.page
+try 1 'target/sizes.log has what' env RT_SAYS=no bash tools/sizes.sh samples/example.page
+try 1 'word NOT PROVED' env RT_SAYS=no bash tools/sizes.sh samples/example.page
+try 1 'cannot be read' env FAILS=1 bash tools/sizes.sh samples/example.page
 
 untouched 2 'one page' bash tools/csv.sh samples/example.page samples/example.page
 untouched 2 'no file no/such.page' bash tools/csv.sh no/such.page
@@ -143,6 +160,10 @@ untouched 2 'tests/points.py' python3 tests/points.py 0
 untouched 1 'ask *refused=9' python3 tests/points.py 100
 untouched 2 'points_reading.py' python3 tests/points_reading.py 1 2 3
 try 0 '^refused=11 section=2$' python3 tests/points_reading.py 0 0 0 0 0 0 12 0 0 0 0 0 0 0 0 0 0 0 0 0 0 0 0 0
+untouched 2 'no library no/such' env YULTARVAS_LIB=no/such python3 tests/summary.py
+untouched 2 'tests/summary.py' python3 tests/summary.py 0
+untouched 2 'tests/summary.py' python3 tests/summary.py --wrong 1 2 3
+try 0 ', 0 not noticed$' python3 tests/summary.py --wrong 400
 untouched 2 'no program' env PROGRAMS=no/such python3 tests/writes.py
 untouched 2 'ORACLE has to name' python3 tests/written.py
 untouched 2 'ORACLE has to name' env ORACLE=no/such python3 tests/written.py

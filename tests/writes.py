@@ -2,7 +2,7 @@
 """Runs the programs where a write or a read fails. What arrives has to be the beginning of the right answers, and no more.
 
     tests/writes.py           runs every program that is named below
-    tests/writes.py NAME ..   runs these: ask, unpage, mkpage, rank_runs, float_runs, page_runs
+    tests/writes.py NAME ..   runs these: ask, unpage, mkpage, sizes, rank_runs, float_runs, page_runs, summary_runs
     tests/writes.py --help    prints this
 
 From the environment:
@@ -28,8 +28,8 @@ import pages
 
 ROOT = pages.ROOT
 PAGE = 4096  # the least that a pipe can hold
-NAMES = ["ask", "unpage", "mkpage", "rank_runs", "float_runs", "page_runs"]
-SAYS = ["ask", "unpage", "mkpage"]  # those that say on standard error that a read or a write failed
+NAMES = ["ask", "unpage", "mkpage", "sizes", "rank_runs", "float_runs", "page_runs", "summary_runs"]
+SAYS = ["ask", "unpage", "mkpage", "sizes"]  # those that say on standard error that a read or a write failed
 LIMIT = 120  # seconds
 
 
@@ -258,11 +258,12 @@ def writes(tally, name, given, wanted):
 
 
 def reads(tally, names):
-    """ask answers whole lines alone where a read fails, unpage and mkpage nothing; where the input ends they answer what there is."""
+    """ask answers whole lines alone where a read fails, unpage, mkpage and sizes nothing; where the input ends they answer what there is."""
     lines, half = b"decode 0\ndecode 1\n", b"decode 1"
     zero, one = (("point=" + ",".join(map(str, pages.point(w))) + "\n").encode() for w in [0, 1])
     page = pages.EXAMPLE
     trace, made = file_of("mkpage", "stdin"), file_of("mkpage", "stdout")
+    listed, sized = file_of("sizes", "stdin"), file_of("sizes", "stdout")
     for name, how, run, wanted, fails in [
             ("ask", "whole lines, then a read that fails", lambda: from_silent("ask", lines), zero + one, True),
             ("ask", "half a line, then a read that fails", lambda: from_silent("ask", lines + half), zero + one, True),
@@ -276,7 +277,11 @@ def reads(tally, names):
             ("mkpage", "half a trace, then a read that fails", lambda: from_silent("mkpage", trace[:40]), b"", True),
             ("mkpage", "a trace of no blocks, then a read that fails", lambda: from_silent("mkpage", b"num=1\n"), b"", True),
             ("mkpage", "a folder", lambda: from_folder("mkpage"), b"", True),
-            ("mkpage", "byte by byte", lambda: from_bytes("mkpage", trace), made, False)]:
+            ("mkpage", "byte by byte", lambda: from_bytes("mkpage", trace), made, False),
+            ("sizes", "a page, then a read that fails", lambda: from_silent("sizes", listed), b"", True),
+            ("sizes", "half a page, then a read that fails", lambda: from_silent("sizes", listed[:40]), b"", True),
+            ("sizes", "a folder", lambda: from_folder("sizes"), b"", True),
+            ("sizes", "byte by byte", lambda: from_bytes("sizes", listed), sized, False)]:
         if name in names:
             got, said = run()
             tally.note(name, how, got == wanted and bool(said) == fails, f"it wrote {got[:200]} and said {said}")

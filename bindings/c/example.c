@@ -150,6 +150,40 @@ static void written(void) {
                && memcmp(page, "format=tetra-page\nnum=256\ncount=0\n", 34) == 0);
 }
 
+/* The summary beside the page: made, checked, and brought up to date for a word more. */
+static void summaries(void) {
+    static const int32_t one[8] = {32, 1, -3, 1, 32, 1, -3, 1};
+    static const int32_t two[12] = {64, 4, -3, 1, 32, 1, -3, 1, 32, 4, 0, 0};
+    const char *longer = "format=tetra-page\nnum=128\ncount=2\nword=000000000001\nword=000000003800\n";
+    const uint8_t *t = (const uint8_t *)text, *u = (const uint8_t *)longer;
+    size_t n = strlen(text), m = strlen(longer), blocks = 7;
+    int32_t rows[14]; /* of which the summaries use 8, then 12 */
+    for (int i = 0; i < 14; i++) rows[i] = 9;
+    expect("summarise, one cell less", yultarvas_summarise(t, n, rows, 7, &blocks) == YULTARVAS_NO_ROOM
+                                           && blocks == 7 && rows[0] == 9);
+    expect("summarise", yultarvas_summarise(t, n, rows, 14, &blocks) == YULTARVAS_OK && blocks == 1
+                            && memcmp(rows, one, sizeof one) == 0 && rows[8] == 9);
+    expect("check_summary", yultarvas_check_summary(t, n, rows, 14) == YULTARVAS_OK);
+    expect("check_summary, one cell less", yultarvas_check_summary(t, n, rows, 7) == YULTARVAS_NO_ROOM);
+    expect("add_word, one cell less",
+           yultarvas_add_word(t, n, 0x3800, rows, 11, &blocks) == YULTARVAS_NO_ROOM && blocks == 1
+               && memcmp(rows, one, sizeof one) == 0 && rows[8] == 9);
+    rows[4] = 33;
+    expect("check_summary, a cell that is another",
+           yultarvas_check_summary(t, n, rows, 14) == YULTARVAS_DISAGREES);
+    expect("add_word, a cell that is another",
+           yultarvas_add_word(t, n, 0x3800, rows, 14, &blocks) == YULTARVAS_DISAGREES && blocks == 1
+               && rows[0] == 32 && rows[4] == 33 && rows[8] == 9);
+    rows[4] = 32;
+    expect("add_word", yultarvas_add_word(t, n, 0x3800, rows, 14, &blocks) == YULTARVAS_OK && blocks == 2
+                           && memcmp(rows, two, sizeof two) == 0 && rows[12] == 9);
+    printf("squares=%" PRId32 " largest=%" PRId32 " smallest=%" PRId32 " odd=%" PRId32 "\n", rows[0], rows[1],
+           rows[2], rows[3]);
+    expect("check_summary, the longer page", yultarvas_check_summary(u, m, rows, 12) == YULTARVAS_OK);
+    expect("check_summary, the page of before",
+           yultarvas_check_summary(t, n, rows, 14) == YULTARVAS_DISAGREES);
+}
+
 /* (NULL, 0) is an empty slice, for each slice that a call takes. */
 static void nothing(void) {
     const uint8_t *empty = (const uint8_t *)"format=tetra-page\nnum=1\ncount=0\n";
@@ -174,10 +208,27 @@ static void nothing(void) {
            yultarvas_read_page(NULL, 0, NULL, 0, &blocks) == YULTARVAS_NO_PAGE && blocks == 7);
     expect("parse_page of nothing", yultarvas_parse_page(NULL, 0, &num, NULL, 0, &blocks) == YULTARVAS_NO_PAGE
                                         && blocks == 7 && num == 7);
+    expect("summarise of nothing",
+           yultarvas_summarise(NULL, 0, NULL, 0, &blocks) == YULTARVAS_NO_PAGE && blocks == 7);
+    expect("check_summary of nothing", yultarvas_check_summary(NULL, 0, NULL, 0) == YULTARVAS_NO_PAGE);
+    expect("add_word to nothing",
+           yultarvas_add_word(NULL, 0, 1, NULL, 0, &blocks) == YULTARVAS_NO_PAGE && blocks == 7);
+    expect("an empty page's summary into nothing",
+           yultarvas_summarise(empty, n, NULL, 0, &blocks) == YULTARVAS_NO_ROOM && blocks == 7);
+    expect("an empty page and no summary",
+           yultarvas_check_summary(empty, n, NULL, 0) == YULTARVAS_NO_ROOM
+               && yultarvas_add_word(empty, n, 1, NULL, 0, &blocks) == YULTARVAS_NO_ROOM && blocks == 7);
     expect("an empty page into nothing",
            yultarvas_read_page(empty, n, NULL, 0, &blocks) == YULTARVAS_OK && blocks == 0);
     expect("its words",
            yultarvas_parse_page(empty, n, &num, NULL, 0, &blocks) == YULTARVAS_OK && blocks == 0 && num == 1);
+}
+
+static void version(void) {
+    char numbers[32];
+    snprintf(numbers, sizeof numbers, "%d.%d.%d", YULTARVAS_VERSION_MAJOR, YULTARVAS_VERSION_MINOR,
+             YULTARVAS_VERSION_PATCH);
+    expect("version", strcmp(numbers, YULTARVAS_VERSION) == 0);
 }
 
 int main(void) {
@@ -190,6 +241,8 @@ int main(void) {
     samples();
     pages();
     written();
+    summaries();
     nothing();
+    version();
     return failures != 0;
 }

@@ -22,6 +22,8 @@ static char page[2048];
 static int32_t samples[YULTARVAS_PAGE_COUNTS];
 static size_t count, length;
 static uint8_t text[YULTARVAS_PAGE_TEXT];
+static char shorter[2048];
+static int32_t rows[YULTARVAS_PAGE_SUMMARY], rows_shorter[YULTARVAS_PAGE_SUMMARY];
 
 static uint64_t state = 1;
 static uint64_t random_bits(void) { /* xorshift64 */
@@ -51,6 +53,11 @@ static void draw_page(int shape) {
     }
 }
 
+/* A wrong answer ends the program. */
+static void must(uint32_t number) {
+    if (number != YULTARVAS_OK) abort();
+}
+
 /* Blocks of several shapes: noise, a wave, whole numbers, spikes, subnormal and huge samples. */
 static void draw(int shape) {
     for (int i = 0; i < YULTARVAS_BLOCK; i++) {
@@ -70,13 +77,15 @@ static void draw(int shape) {
     int at = sprintf(page, "format=tetra-page\nnum=%u\ncount=64\n", (unsigned)num);
     for (int i = 0; i < YULTARVAS_PAGE_BLOCKS; i++)
         at += sprintf(page + at, "word=%012llx\n", (unsigned long long)(random_bits() >> 16));
+    memcpy(shorter, page, sizeof page); /* the same page without its last word */
+    shorter[at - 18] = 0;
+    memcpy(strstr(shorter, "count=64"), "count=63", 8);
+    must(yultarvas_summarise((uint8_t *)shorter, strlen(shorter), rows_shorter, YULTARVAS_PAGE_SUMMARY,
+                             &blocks));
     draw_page(shape);
 }
 
-/* ---- the calls, each on what was drawn; a wrong answer ends the program */
-static void must(uint32_t number) {
-    if (number != YULTARVAS_OK) abort();
-}
+/* ---- the calls, each on what was drawn */
 static void decode(void) { must(yultarvas_decode(word, point, YULTARVAS_BLOCK)); }
 static void encode_point(void) { must(yultarvas_encode_point(point, YULTARVAS_BLOCK, &word)); }
 static void outside(void) { must(yultarvas_outside(point, YULTARVAS_BLOCK)); }
@@ -102,9 +111,21 @@ static void write_page(void) {
     must(yultarvas_number_of(yultarvas_write_page(num, count, samples, YULTARVAS_PAGE_COUNTS, text,
                                                   YULTARVAS_PAGE_TEXT, &length)));
 }
+static void summarise(void) {
+    must(yultarvas_summarise((uint8_t *)page, strlen(page), rows, YULTARVAS_PAGE_SUMMARY, &blocks));
+}
+static void check_summary(void) {
+    must(yultarvas_check_summary((uint8_t *)page, strlen(page), rows, YULTARVAS_PAGE_SUMMARY));
+}
+static void add_word(void) {
+    memcpy(rows, rows_shorter, sizeof rows);
+    must(yultarvas_add_word((uint8_t *)shorter, strlen(shorter), word, rows, YULTARVAS_PAGE_SUMMARY,
+                            &blocks));
+}
 static void environment(void) { must(yultarvas_environment_now()); }
 
-/* decode leaves the point that encode_point and outside take, lower_scale the scale that encode_at_scale takes. */
+/* decode leaves the point that encode_point and outside take, lower_scale the scale that encode_at_scale
+ * takes, summarise the rows that check_summary takes. */
 static const struct {
     const char *name;
     void (*call)(void);
@@ -120,6 +141,9 @@ static const struct {
     {"read_page", read_page},
     {"parse_page", parse_page},
     {"write_page", write_page},
+    {"summarise", summarise},
+    {"check_summary", check_summary},
+    {"add_word", add_word},
     {"environment", environment},
 };
 enum { CALLS = sizeof calls / sizeof calls[0] };

@@ -2,8 +2,9 @@
 //! every function of which is proved against its contract.
 //!
 //! A block is [`BLOCK`] samples, and has one 48-bit word, which stands for a point of the Leech lattice. A
-//! trace page holds up to [`PAGE_BLOCKS`] words. A call that is refused answers a [`Refused`], whose
-//! [`Refused::number`] is the one that documents and other languages use.
+//! trace page holds up to [`PAGE_BLOCKS`] words, and a summary kept beside it says how large they are. A call
+//! that is refused answers a [`Refused`], whose [`Refused::number`] is the one that documents and other
+//! languages use.
 //!
 //! **Doubles.** The contracts are over IEEE 754 doubles, rounded to nearest with ties to even, subnormal
 //! numbers kept, as a thread starts. A program that calls C code which sets another rounding mode or
@@ -16,8 +17,8 @@
 //! **Threads.** No call keeps anything, allocates or locks: any number of threads may call at once.
 //!
 //! ```
-//! use yultarvas::{decode, encode, encode_point, environment, parse_page, read_page, write_page};
-//! use yultarvas::{PAGE_COUNTS, PAGE_TEXT};
+//! use yultarvas::{add_word, check_summary, decode, encode, encode_point, environment, parse_page};
+//! use yultarvas::{read_page, summarise, write_page, PAGE_COUNTS, PAGE_SUMMARY, PAGE_TEXT};
 //!
 //! fn main() -> Result<(), Box<dyn std::error::Error>> {
 //!     environment()?; // once, at start-up
@@ -33,6 +34,11 @@
 //!     let mut page = [0; PAGE_TEXT]; // places for any page
 //!     let length = write_page(128, blocks, &counts, &mut page)?; // a page of those counts
 //!     assert_eq!(parse_page(&page[..length])?.num(), 128);
+//!     let mut rows = [0; PAGE_SUMMARY]; // places for any summary
+//!     assert_eq!(summarise(text, &mut rows)?, 1);
+//!     check_summary(text, &rows)?;
+//!     assert_eq!(add_word(text, 0x3800, &mut rows)?, 2); // as for the page of 1 and 3800
+//!     assert_eq!(rows[..4], [64, 4, -3, 1]); // squares, largest, smallest, odd blocks
 //!     Ok(())
 //! }
 //! ```
@@ -53,6 +59,8 @@ pub const PAGE_BLOCKS: usize = 64;
 pub const PAGE_COUNTS: usize = PAGE_BLOCKS * BLOCK;
 /// The most bytes that a page's text has.
 pub const PAGE_TEXT: usize = 1189;
+/// The most cells that a page's summary has: 4 in the page's row, and 4 for each block.
+pub const PAGE_SUMMARY: usize = 4 * (PAGE_BLOCKS + 1);
 
 /// Bytes of stack that a thread should have left for any one call: more than twice what was measured.
 pub const STACK: usize = 320 * 1024;
@@ -243,6 +251,67 @@ pub fn write_page(num: u32, count: usize, samples: &[i32], text: &mut [u8]) -> R
         )
     };
     RefusedAt::unless(answer, length)
+}
+
+/// The summary of a page into `rows`, and how many blocks the page has.
+///
+/// It has rows of 4 cells: first the page's row, then one for each block. A block's row has the sum of
+/// squares of the coordinates of its point, the largest coordinate, the smallest one, and the parity p, which
+/// is bit 0 of the word. The page's row has the total of those sums, the largest and the smallest coordinate
+/// over all blocks, and how many blocks have p = 1; of a page with no blocks it is all zeros. Neither num nor
+/// bit 47 of a word changes anything in it. That makes `4 * (n + 1)` cells for n blocks; those behind stay as
+/// they were. [`PAGE_SUMMARY`] cells hold the summary of any page.
+///
+/// Refused with [`Refused::NoPage`], else [`Refused::NoRoom`], and then `rows` is as it was.
+pub fn summarise(text: &[u8], rows: &mut [i32]) -> Result<usize, Refused> {
+    let mut blocks = 0;
+    let number = unsafe {
+        raw::yultarvas_summarise(
+            text.as_ptr(),
+            text.len(),
+            rows.as_mut_ptr(),
+            rows.len(),
+            &mut blocks,
+        )
+    };
+    Refused::unless(number, blocks)
+}
+
+/// Whether `rows` begin with the summary of a page, as [`summarise`] makes it. Cells behind it are not looked
+/// at. Refused with [`Refused::NoPage`], else [`Refused::NoRoom`] for fewer cells than the summary has, else
+/// [`Refused::Disagrees`] where a cell is another.
+pub fn check_summary(text: &[u8], rows: &[i32]) -> Result<(), Refused> {
+    let number =
+        unsafe { raw::yultarvas_check_summary(text.as_ptr(), text.len(), rows.as_ptr(), rows.len()) };
+    Refused::unless(number, ())
+}
+
+/// Brings the summary of a page up to date for one word more, of which the low 48 bits count: what is left in
+/// `rows` is the summary of the page with that word behind the others, and the answer is how many blocks that
+/// page has. The page's row and the new block's row are written, and no other cell.
+///
+/// The text is not changed. The longer page's text is the caller's to make, with one more in its count line
+/// and a word line more ([`parse_page`] gives num and the words), and it is what the next call takes. With
+/// the text of before, this call and [`check_summary`] then answer [`Refused::Disagrees`], unless the word's
+/// point is all zeros, which can leave the page's row as it was.
+///
+/// Refused with the first that fits of [`Refused::NoPage`] for a text that is no page or a page of
+/// [`PAGE_BLOCKS`] blocks, [`Refused::NoRoom`] for fewer cells than the longer summary has, `4 * (n + 2)` for
+/// a page of n blocks, [`Refused::Disagrees`] where `rows` do not begin with the page's summary; then `rows`
+/// is as it was.
+pub fn add_word(text: &[u8], word: u64, rows: &mut [i32]) -> Result<usize, Refused> {
+    let mut blocks = 0;
+    let number = unsafe {
+        raw::yultarvas_add_word(
+            text.as_ptr(),
+            text.len(),
+            word,
+            rows.as_mut_ptr(),
+            rows.len(),
+            &mut blocks,
+        )
+    };
+    Refused::unless(number, blocks)
 }
 
 /// Whether sums of doubles come out on this thread as the contracts say: to be asked once at start-up, and

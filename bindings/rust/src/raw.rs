@@ -89,6 +89,30 @@ extern "C" {
         text_len: usize,
         length: *mut usize,
     ) -> u64;
+    /// The summary of a page.
+    pub fn yultarvas_summarise(
+        text: *const u8,
+        text_len: usize,
+        rows: *mut i32,
+        rows_len: usize,
+        blocks: *mut usize,
+    ) -> u32;
+    /// Whether rows begin with the summary of a page.
+    pub fn yultarvas_check_summary(
+        text: *const u8,
+        text_len: usize,
+        rows: *const i32,
+        rows_len: usize,
+    ) -> u32;
+    /// The summary of a page, brought up to date for one word more.
+    pub fn yultarvas_add_word(
+        text: *const u8,
+        text_len: usize,
+        word: u64,
+        rows: *mut i32,
+        rows_len: usize,
+        blocks: *mut usize,
+    ) -> u32;
     /// Three sums of doubles, to be called with 1.0 and 2^-1074.
     pub fn yultarvas_environment(one: f64, least: f64) -> u32;
 }

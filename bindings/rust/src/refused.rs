@@ -36,6 +36,8 @@ pub enum Refused {
     /// 12: no word decodes to the point: the sum of its coordinates' quarters, each rounded down, is odd where
     /// they are even, or even where they are odd.
     WrongSum,
+    /// 14: the summary and the page disagree.
+    Disagrees,
     /// A number that this version of the crate has no name for.
     Other(u32),
 }
@@ -97,6 +99,7 @@ impl Refused {
                 "the point has no word: the sum of its coordinates' quarters, each rounded down, is odd \
                  where they are even, or even where they are odd; changing one by 4 mends it",
             ),
+            Refused::Disagrees => (14, "the summary and the page disagree"),
             Refused::Other(number) => (
                 number,
                 "the library has a reason that this version of the crate does not know",
@@ -117,6 +120,7 @@ impl Refused {
             9 => Refused::NoPage,
             10 => Refused::NoCodeword,
             12 => Refused::WrongSum,
+            14 => Refused::Disagrees,
             other => Refused::Other(other),
         }
     }

@@ -1,8 +1,8 @@
 //! The order of refusals; slices that are too short or longer than a block, and what a call leaves in what it
 //! is lent.
 use yultarvas::{
-    decode, encode, encode_at_scale, encode_point, encode_with, lower_scale, parse_page, raw, read_page,
-    t_of, Refused,
+    add_word, check_summary, decode, encode, encode_at_scale, encode_point, encode_with, lower_scale,
+    parse_page, raw, read_page, summarise, t_of, Refused,
 };
 
 const PAGE: &[u8] = b"format=tetra-page\nnum=128\ncount=1\nword=000000000001\n";
@@ -30,6 +30,14 @@ fn order_of_refusals() {
     assert_eq!(read_page(PAGE, &mut [7; 23]), Err(Refused::NoRoom));
     assert_eq!(read_page(b"", &mut []), Err(Refused::NoPage));
     assert_eq!(parse_page(b""), Err(Refused::NoPage));
+    assert_eq!(summarise(b"", &mut []), Err(Refused::NoPage));
+    assert_eq!(summarise(PAGE, &mut [7; 7]), Err(Refused::NoRoom));
+    assert_eq!(check_summary(b"", &[]), Err(Refused::NoPage));
+    assert_eq!(check_summary(PAGE, &[7; 7]), Err(Refused::NoRoom));
+    assert_eq!(check_summary(PAGE, &[7; 8]), Err(Refused::Disagrees));
+    assert_eq!(add_word(b"", 1, &mut []), Err(Refused::NoPage));
+    assert_eq!(add_word(PAGE, 1, &mut [7; 11]), Err(Refused::NoRoom));
+    assert_eq!(add_word(PAGE, 1, &mut [7; 12]), Err(Refused::Disagrees));
 }
 
 fn point(values: &[(i32, usize)]) -> [i32; 24] {
@@ -111,6 +119,8 @@ fn numbers() {
         (11, Refused::Outside { section: 1 }),
         (11, Refused::Outside { section: 3 }),
         (12, Refused::WrongSum),
+        (13, Refused::Other(13)),
+        (14, Refused::Disagrees),
         (16, Refused::Other(16)),
     ];
     for (number, refused) in all {
@@ -124,6 +134,10 @@ fn numbers() {
         Refused::Outside { section: 2 }.to_string(),
         "the point has no word: section 2 (coordinates 6, 11, 13, 14, 16, 17, 18, 19) is outside its bound; it \
          needs smaller values (refused with 11)"
+    );
+    assert_eq!(
+        Refused::Disagrees.to_string(),
+        "the summary and the page disagree (refused with 14)"
     );
 }
 
@@ -179,6 +193,12 @@ fn longer_slices() {
         )
     };
     assert_eq!((got, num, words, count), (0, 128, [1, 9, 9], 1));
+    let mut rows = [9; 14];
+    assert_eq!(summarise(PAGE, &mut rows), Ok(1));
+    assert_eq!(rows, [32, 1, -3, 1, 32, 1, -3, 1, 9, 9, 9, 9, 9, 9]);
+    assert_eq!(check_summary(PAGE, &rows), Ok(()));
+    assert_eq!(add_word(PAGE, 0, &mut rows), Ok(2));
+    assert_eq!(rows, [32, 1, -3, 1, 32, 1, -3, 1, 0, 0, 0, 0, 9, 9]);
 }
 
 // A refused call leaves every cell as it was. 8 stands before every other number, but for a page's 9.
@@ -239,6 +259,26 @@ fn untouched() {
         assert_eq!(
             raw::yultarvas_parse_page(two.as_ptr(), two.len(), &mut num, w, 2, &mut count),
             8
+        );
+        assert_eq!(
+            raw::yultarvas_summarise(PAGE.as_ptr(), PAGE.len() - 1, at, 24, &mut count),
+            9
+        );
+        assert_eq!(
+            raw::yultarvas_summarise(PAGE.as_ptr(), PAGE.len(), at, 7, &mut count),
+            8
+        );
+        assert_eq!(
+            raw::yultarvas_add_word(PAGE.as_ptr(), PAGE.len() - 1, 1, at, 24, &mut count),
+            9
+        );
+        assert_eq!(
+            raw::yultarvas_add_word(PAGE.as_ptr(), PAGE.len(), 1, at, 11, &mut count),
+            8
+        );
+        assert_eq!(
+            raw::yultarvas_add_word(PAGE.as_ptr(), PAGE.len(), 1, at, 24, &mut count),
+            14
         );
     }
     assert_eq!(

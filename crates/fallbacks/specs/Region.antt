@@ -3,25 +3,16 @@
 use mathlib.Core.Path.{_≡_}
 use mathlib.Core.Logic.{_⊎_}
 use mathlib.Core.List.{List, [], _∷_}
-use Prim.Native.Nat.{ℕ, suc, _+_, _*_, _<_}
+use Prim.Native.Nat.{ℕ, _+_, _*_, _<_}
 use lib.ListN.{getD}
-use lib.IntN.{ℤ, pos, negsuc}
+use lib.IntN.{ℤ, pos}
 use lib.Signed.{_<ℤ_}
-use Rattle.laws.specs.Words.{tab}
+use Rattle.laws.specs.Words.{tab, norm}
 use Rattle.rows.specs.Rows.{rows}
 use Rattle.search.specs.Tables.{tables, endByte, fallbackAt}
 use Rattle.search.specs.Entries.{sectionAt}
 
 -- ---- the order of points
--- the sum of the squares
-abbrev pub square : ℤ → ℕ
-square (pos n) = n * n
-square (negsuc n) = suc n * suc n
-
-unfoldable pub norm : List ℤ → ℕ
-norm [] = 0
-norm (v ∷ y) = square v + norm y
-
 -- y is not greater than z: the first coordinate in which they differ is smaller in y
 unfoldable pub NotGreater : List ℤ → List ℤ → Type 0
 NotGreater [] z = Unit

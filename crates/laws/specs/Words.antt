@@ -2,7 +2,7 @@
 -- Assumes nothing.
 use mathlib.Core.Bool.{Bool, true, false, cond}
 use mathlib.Core.List.{List, [], _∷_}
-use Prim.Native.Nat.{ℕ, zero, suc, _+_, _-_, _/_, _%_, compare, Ordering, Ordering·lt, Ordering·eq, Ordering·gt}
+use Prim.Native.Nat.{ℕ, zero, suc, _+_, _-_, _*_, _/_, _%_, compare, Ordering, Ordering·lt, Ordering·eq, Ordering·gt}
 use lib.Dec.{eqb}
 use lib.IntN.{ℤ, pos, negsuc}
 
@@ -42,6 +42,13 @@ abbrev pub divZ : ℤ → ℕ → ℤ
 divZ (pos n) m = pos (n / m)
 divZ (negsuc n) m = negsuc (n / m)
 
+-- whether two whole numbers are one
+abbrev pub eqZ : ℤ → ℤ → Bool
+eqZ (pos a) (pos b) = eqb a b
+eqZ (pos a) (negsuc b) = false
+eqZ (negsuc a) (pos b) = false
+eqZ (negsuc a) (negsuc b) = eqb a b
+
 -- a number as the difference of its two parts, of which one is 0
 abbrev pub posPart : ℤ → ℕ
 posPart (pos n) = n
@@ -50,6 +57,15 @@ posPart (negsuc n) = 0
 abbrev pub negPart : ℤ → ℕ
 negPart (pos n) = 0
 negPart (negsuc n) = suc n
+
+-- the sum of the squares
+abbrev pub square : ℤ → ℕ
+square (pos n) = n * n
+square (negsuc n) = suc n * suc n
+
+unfoldable pub norm : List ℤ → ℕ
+norm [] = 0
+norm (v ∷ y) = square v + norm y
 
 -- how far two numbers are apart
 abbrev pub gap : ℕ → ℕ → ℕ

@@ -1,6 +1,6 @@
 -- THE DEMANDS, each said of what the public calls answer. Definitions only: src/lib.rt makes the calls and
 -- ensures what stands here, for every input. In order: words, points, samples, what samples give besides,
--- roots, pages, pages that are made. Where the definitions stand that this file and the contracts cite, below crates/:
+-- roots, pages, pages that are made, summaries beside pages. Where the definitions stand that this file and the contracts cite, below crates/:
 --   a lattice point, a point that has a word   `LatticePoint`, `HasWord`              tetra/specs/Lattice
 --   why a point has no word, the four numbers  `Why`, `Refused`                       tetra/specs/Why
 --   the point that a word's fields define      `pointOf`                              tetra/specs/Tetra
@@ -27,6 +27,11 @@
 --   a block that is refused with 2 or with 4   `Wide`, `Far`, `NoneBelow`             writer/specs/Writer
 --   a trace: its text, its num and its samples `Trace`                                trace/specs/Trace
 --   the lines of a refusal                     `refusedLines`                         made/specs/Made
+--   a page's summary, and how many cells       `summaryOf`, `cellsFor`                summary/specs/Summary
+--   all coordinates of words, how many are odd `points`, `odds`                       summary/specs/Summary
+--   the words with one more                    `longer`                               summary/specs/Answer
+--   rows that begin with a summary             `Agrees`, `Kept`                       summary/specs/SummaryRule
+--   what the cells of a row say                `RowIs`                                summary/specs/SummaryRule
 -- The structs of the answers (`Encoded`, `Code`, ..) stand in src/ of their crates.
 use mathlib.Core.Path.{_≡_}
 use mathlib.Core.Bool.{true, false}
@@ -63,6 +68,10 @@ use Rattle.text.specs.Text.{refusedText}
 use Rattle.shown.specs.Shown.{blockTexts, inArray}
 use Rattle.writer.specs.declared.Written.{Written}
 use Rattle.writer.specs.Writer.{scaleOf, wordsFor, writtenOf, Wide, Far, NoneBelow}
+use Rattle.summary.specs.declared.Summed.{Summed}
+use Rattle.summary.specs.Summary.{points, odds, summaryOf, cellsFor}
+use Rattle.summary.specs.Answer.{longer}
+use Rattle.summary.specs.SummaryRule.{Agrees, Kept, RowIs}
 use Rattle.demands.specs.Promised.{Coded}
 use Rattle.trace.specs.Trace.{Trace}
 use Rattle.made.specs.declared.Made.{Made}
@@ -313,3 +322,67 @@ MakesPages text r = (num count : ℕ) (x : List ℤ) → Trace text num count x
 -- and for every other text the line of the refusal 9 alone.
 abbrev pub MakesNoOther : List ℕ → Made → Type 0
 MakesNoOther text r = NoTrace text → r ≡ Made·inArray (refusedText 9)
+
+-- ---- SUMMARIES BESIDE PAGES (request 2026-04): rows of four cells, the page's first and then one for each block. A call
+-- answers r, and the rows that held `old` then hold `new`.
+-- `summarise` answers a page that has room by number 0 and its count of blocks; its summary stands at the rows'
+-- start, and the rest of them stays.
+abbrev pub SummarisesPages : List ℕ → List ℤ → List ℤ → Summed → Type 0
+SummarisesPages text old new r = (num : ℕ) (words : List ℕ) → Page text num words
+    → cellsFor (length words) ≤ length old
+    → (r ≡ record { number = 0; count = length words })
+    × (new ≡ summaryOf words ++ drop (cellsFor (length words)) old)
+
+-- Each row holds the sum of the squares of its coordinates, the largest and the smallest of them, and how many of
+-- its blocks are odd: the first row those of the whole page, which are zeros where it has no block, and the row
+-- from place 4 (i + 1) on those of block i, of which the last is its parity p.
+abbrev pub RowsSay : List ℕ → List ℤ → Summed → Type 0
+RowsSay text new r = r .number ≡ 0 → (num : ℕ) (words : List ℕ) → Page text num words
+    → (1 ≤ length words → RowIs (points words) (odds words) (take 4 new))
+    × ((i : ℕ) → i < length words
+    → RowIs (pointOf (getD words i 0)) (getD words i 0 % 2) (take 4 (drop (4 * (i + 1)) new)))
+
+-- (demand 1) It refuses with 9 a text that is no page, then with 8 rows that are too short; count 0, and the rows
+-- are untouched.
+pub record RefusesToSummarise (text : List ℕ) (old new : List ℤ) (r : Summed) : Type 0 where
+  pub no-page : NoPage text → (r ≡ record { number = 9; count = 0 }) × (new ≡ old)
+  pub short : (num : ℕ) (words : List ℕ) → Page text num words → length old < cellsFor (length words)
+      → (r ≡ record { number = 8; count = 0 }) × (new ≡ old)
+
+-- `check` answers 0 just where the text is a page and the rows begin with its summary;
+abbrev pub ChecksSummary : List ℕ → List ℤ → ℕ → Type 0
+ChecksSummary text rows n = (n ≡ 0) ↔ Kept text rows
+
+-- (demand 1) else 9 where it is no page, then 8 where the rows are too short, then 14.
+pub record RefusesToCheck (text : List ℕ) (rows : List ℤ) (n : ℕ) : Type 0 where
+  pub no-page : NoPage text → n ≡ 9
+  pub short : (num : ℕ) (words : List ℕ) → Page text num words → length rows < cellsFor (length words) → n ≡ 8
+  pub other : (num : ℕ) (words : List ℕ) → Page text num words → cellsFor (length words) ≤ length rows
+      → (Agrees words rows → ⊥) → n ≡ 14
+
+-- `add` of the word w answers a page below 64 blocks whose summary stands in rows with room for one block more by
+-- number 0 and the longer page's count; the longer page's summary stands at the rows' start, and the rest stays.
+abbrev pub AddsWord : List ℕ → ℕ → List ℤ → List ℤ → Summed → Type 0
+AddsWord text w old new r = (num : ℕ) (words : List ℕ) → Page text num words → length words < 64
+    → cellsFor (length words + 1) ≤ length old → Agrees words old
+    → (r ≡ record { number = 0; count = length words + 1 })
+    × (new ≡ summaryOf (longer words w) ++ drop (cellsFor (length words + 1)) old)
+
+-- Where it answers 0, `check` of the longer page's text and the rows answers 0; and of the old rows only the page's
+-- has changed.
+abbrev pub KeepsSummary : List ℕ → ℕ → List ℤ → List ℤ → Summed → Type 0
+KeepsSummary text w old new r = r .number ≡ 0 → (num : ℕ) (words : List ℕ) → Page text num words
+    → Kept (pageText num (longer words w)) new
+    × (take (4 * length words) (drop 4 new) ≡ take (4 * length words) (drop 4 old))
+
+-- (demand 1) It refuses with 9 a text that is no page or has 64 blocks, then with 8 rows that are too short for the
+-- longer summary, then with 14 rows that are not the summary of the page; count 0, and the rows are untouched.
+pub record RefusesToAdd (text : List ℕ) (old new : List ℤ) (r : Summed) : Type 0 where
+  pub no-page : NoPage text → (r ≡ record { number = 9; count = 0 }) × (new ≡ old)
+  pub full : (num : ℕ) (words : List ℕ) → Page text num words → 64 ≤ length words
+      → (r ≡ record { number = 9; count = 0 }) × (new ≡ old)
+  pub short : (num : ℕ) (words : List ℕ) → Page text num words → length words < 64
+      → length old < cellsFor (length words + 1) → (r ≡ record { number = 8; count = 0 }) × (new ≡ old)
+  pub other : (num : ℕ) (words : List ℕ) → Page text num words → length words < 64
+      → cellsFor (length words + 1) ≤ length old → (Agrees words old → ⊥)
+      → (r ≡ record { number = 14; count = 0 }) × (new ≡ old)

@@ -17,6 +17,8 @@ ghost use Rattle.promise.specs.Demands.{ParsesPages, ParsesNoOther, Prin
 ghost use Rattle.promise.specs.Demands.{FormsPages, FormsPage, RefusesToForm};
 ghost use Rattle.promise.specs.Demands.{WritesPage, CodesBlocks, WritesNearest, RefusesToWrite, WritesOthers};
 ghost use Rattle.promise.specs.Demands.{MakesPages, MakesNoOther};
+ghost use Rattle.promise.specs.Demands.{SummarisesPages, RowsSay, RefusesToSummarise, ChecksSummary, RefusesToCheck};
+ghost use Rattle.promise.specs.Demands.{AddsWord, KeepsSummary, RefusesToAdd};
 ghost use Rattle.promise.specs.Demands.{ReadsPages, RoundsToEven, RefusesNoPage, RefusesShort, AcceptsPagesOnly};
 use encoder::Code;
 use made::Made;
@@ -27,6 +29,7 @@ use root::Rooted;
 use score::Scales;
 use score::Scored;
 use shown::Printed;
+use summary::Summed;
 use tetra::Encoded;
 use writer::Written;
 
@@ -198,4 +201,31 @@ pub fn made_page(text: &[u8]) -> Made
     ensures { λ r. ⌜ MakesNoOther (now (text .entry)) r ⌝ }
 {
     made::mkpage(text)
+}
+
+// ---- summaries beside pages
+// `summarise`: a page to its rows.
+pub fn summarised_page(text: &[u8], rows: &mut [i32]) -> Summed
+    ensures { λ r. ⌜ SummarisesPages (now (text .entry)) (now (rows .entry)) (now (rows .exit)) r ⌝ }
+    ensures { λ r. ⌜ RowsSay (now (text .entry)) (now (rows .exit)) r ⌝ }
+    ensures { λ r. ⌜ RefusesToSummarise (now (text .entry)) (now (rows .entry)) (now (rows .exit)) r ⌝ }
+{
+    summary::summarise(text, rows)
+}
+
+// `check`: whether rows are a page's.
+pub fn checked_summary(text: &[u8], rows: &[i32]) -> u32
+    ensures { λ r. ⌜ ChecksSummary (now (text .entry)) (now (rows .entry)) r ⌝ }
+    ensures { λ r. ⌜ RefusesToCheck (now (text .entry)) (now (rows .entry)) r ⌝ }
+{
+    summary::check(text, rows)
+}
+
+// `add`: rows with one word more.
+pub fn added_word(text: &[u8], word: u64, rows: &mut [i32]) -> Summed
+    ensures { λ r. ⌜ AddsWord (now (text .entry)) word (now (rows .entry)) (now (rows .exit)) r ⌝ }
+    ensures { λ r. ⌜ KeepsSummary (now (text .entry)) word (now (rows .entry)) (now (rows .exit)) r ⌝ }
+    ensures { λ r. ⌜ RefusesToAdd (now (text .entry)) (now (rows .entry)) (now (rows .exit)) r ⌝ }
+{
+    summary::add(text, word, rows)
 }

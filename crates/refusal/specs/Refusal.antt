@@ -1,5 +1,6 @@
 -- The numbers by which a call refuses bad input: document 01, "Numbers that answer a bad call", with what the requests of document 02 add:
--- 2026-01 to 2, 3 and 9; 2026-02 to 5, which it splits, and 10 to 12. A call that is accepted carries 0. Assumes nothing.
+-- 2026-01 to 2, 3 and 9; 2026-02 to 5, which it splits, and 10 to 12; 2026-04 adds to 9, and 14. No call answers 13. A call that is
+-- accepted carries 0. Assumes nothing.
 use mathlib.Core.Path.{_≡_, refl}
 use mathlib.Core.List.{List, [], _∷_}
 use Prim.Native.Nat.{ℕ}
@@ -52,11 +53,16 @@ outside = 11
 abbrev pub wrongSum : ℕ
 wrongSum = 12
 
+-- a summary and its page disagree
+abbrev pub disagrees : ℕ
+disagrees = 14
+
 -- ---- all of them
 abbrev pub numbers : List ℕ
 numbers =
-    notFinite ∷ tooLarge ∷ noScale ∷ tooFar ∷ mixedParity ∷ tooWide ∷ outOfRange ∷ noRoom ∷ noPage ∷ noCodeword ∷ outside ∷ wrongSum ∷ []
+    notFinite ∷ tooLarge ∷ noScale ∷ tooFar ∷ mixedParity ∷ tooWide ∷ outOfRange ∷ noRoom ∷ noPage ∷ noCodeword ∷ outside ∷ wrongSum
+    ∷ disagrees ∷ []
 
--- they are the numbers of the documents, from 1 on, so no two reasons share one
-pub from-one : numbers ≡ 1 ∷ 2 ∷ 3 ∷ 4 ∷ 5 ∷ 6 ∷ 7 ∷ 8 ∷ 9 ∷ 10 ∷ 11 ∷ 12 ∷ []
-from-one = refl
+-- they are the numbers of the documents, ascending, so no two reasons share one
+pub as-listed : numbers ≡ 1 ∷ 2 ∷ 3 ∷ 4 ∷ 5 ∷ 6 ∷ 7 ∷ 8 ∷ 9 ∷ 10 ∷ 11 ∷ 12 ∷ 14 ∷ []
+as-listed = refl

@@ -39,8 +39,11 @@ pub const OUTSIDE: u32 = 11;
 // A point's sum of k is even where it has to be odd, or odd where even.
 pub const WRONG_SUM: u32 = 12;
 
-// All of them, from 1 on. The contract holds these constants to the definitions, so that neither can be changed alone.
-pub fn numbers() -> [u32; 12]
+// A summary and its page disagree.
+pub const DISAGREES: u32 = 14;
+
+// All of them, ascending. The contract holds these constants to the definitions, so that neither can be changed alone.
+pub fn numbers() -> [u32; 13]
     ensures { λ r. ⌜ r ≡ numbers ⌝ }
 {
     [
@@ -56,5 +59,6 @@ pub fn numbers() -> [u32; 12]
         NO_CODEWORD,
         OUTSIDE,
         WRONG_SUM,
+        DISAGREES,
     ]
 }

@@ -5,16 +5,17 @@ use mathlib.Core.Bool.{cond}
 use mathlib.Core.Logic.{_⊎_, inl, inr, _↔_}
 use mathlib.Core.List.{List}
 use Prim.Native.Nat.{ℕ, _+_, _*_, _/_, _%_, _^_, _<_, _≤_}
-use native.Mathlib.Nat.{mod-eq-of-lt}
+use native.Mathlib.Nat.{mod-eq-of-lt, div-one}
 use native.Mathlib.Omega.{arith}
 use lib.Pow.{shr-shr}
 use lib.Dec.{eqb}
 use lib.IntN.{ℤ, pos, natAbs}
 use lib.ListN.{length, getD}
 use Rattle.refusal.specs.Refusal.{outside}
-use Rattle.word.specs.Word.{fieldsOf, wordOf}
+use Rattle.word.specs.Word.{fieldAt, fieldsOf, wordOf}
 use Rattle.word.specs.Laws.{split-narrow, split-join, no-gain-split, no-gain-lt}
 use Rattle.word.specs.declared.Fields.{Fields}
+use Rattle.rank.specs.Coord.{parityOf}
 use Rattle.rank.specs.Section.{bitsOf}
 use Rattle.trellis.specs.Trio.{places}
 use Rattle.trellis.specs.Laws.Trio.{trio-fits}
@@ -24,7 +25,7 @@ use Rattle.tetra.specs.Encode.{acceptedWith, fieldsFor, encodeOf}
 use Rattle.tetra.specs.Why.{Why, has-word, mixed-parity, no-codeword, outside-bound, wrong-sum, Refused}
 use Rattle.tetra.specs.Laws.Orders.{natural-length, natural-at, natural-trio}
 use Rattle.tetra.specs.Laws.Point.{bits-are, point-small}
-use Rattle.tetra.specs.Laws.Word.{trio-of, decoded, fields-narrow, fields-point, fields-back}
+use Rattle.tetra.specs.Laws.Word.{trio-of, word-parity, decoded, fields-narrow, fields-point, fields-back}
 use Rattle.tetra.specs.Laws.Reason.{answered, told}
 use Rattle.tetra.specs.declared.Encoded.{Encoded}
 
@@ -41,6 +42,11 @@ coordinate-small w i h =
 
 pub decodes : (w : ℕ) → HasWord (pointOf w)
 decodes = decoded
+
+-- whose coordinates have the parity p, bit 0 of the word
+pub parity-is : (w i : ℕ) → i < 24 → parityOf (getD (pointOf w) i (pos 0)) ≡ w % 2
+unfolding fieldAt
+parity-is w i h = word-parity w i h ∙ ap (λ (n : ℕ). n % 2) (div-one w)
 
 -- and whose bits are the bytes that `patterns` answers
 pub patterns-are : (w : ℕ) → patternsOf w .c1 + 256 * patternsOf w .c2 + 65536 * patternsOf w .c3 ≡ bitsOf (trio (pointOf w))

@@ -8,6 +8,7 @@ mod slices;
 
 use refusal::NO_ROOM;
 ghost use mathlib.Core.Path.{_≡_};
+ghost use Prim.Native.Nat.{_+_};
 ghost use lib.ListN.{length};
 ghost use Rattle.page.specs.Answer.{numIn, wordsIn};
 ghost use Rattle.page.specs.Reader.{readingOf};
@@ -17,6 +18,7 @@ ghost use Rattle.yultarvas.specs.Calls.{scalesFor, scalesNumber, scoreFo
 ghost use Rattle.yultarvas.specs.Calls.{pageNumber, pageBlocks, pageCells, wordsNumber, wordsOver};
 ghost use Rattle.yultarvas.specs.Calls.{writtenPage, withBlock};
 ghost use Rattle.writer.specs.Writer.{textAfter};
+ghost use Rattle.summary.specs.Answer.{summariseNumber, summarisedRows, checked, addNumber, addedRows};
 ghost use Rattle.yultarvas.specs.Environment.{environmentOf};
 
 // ---- words and points
@@ -256,6 +258,58 @@ pub extern "C" fn yultarvas_write_page(
         return (number as u64) + 4294967296 * (w.block as u64);
     }
     *length = w.length;
+    0
+}
+
+// ---- a summary beside a page
+
+// The summary of a page, four cells a row, from the start of `rows` on: first the page's row, then one for each
+// block; and how many blocks it has. Refused with 9 where the text is no page, then with 8 where `rows` has
+// fewer cells than the summary.
+#[no_mangle]
+pub extern "C" fn yultarvas_summarise(text: &[u8], rows: &mut [i32], blocks: &mut usize) -> u32
+    ensures { λ r. ⌜ r ≡ summariseNumber (readingOf (now (text .entry))) (length (now (rows .entry))) ⌝ }
+    ensures { λ r. ⌜ now (rows .exit) ≡ summarisedRows (readingOf (now (text .entry))) (now (rows .entry)) ⌝ }
+    ensures { λ r. ⌜ now (blocks .exit) ≡ left r (length (wordsIn (readingOf (now (text .entry))))) (now (blocks .entry)) ⌝ }
+{
+    let made = summary::summarise(text, rows);
+    let number = made.number;
+    if number != 0 {
+        return number;
+    }
+    *blocks = made.count;
+    0
+}
+
+// Whether `rows` begin with the summary of the page: 0 where they do. Refused with 9 where the text is no page,
+// then with 8 where `rows` has fewer cells than the summary, then with 14 where a cell is another.
+#[no_mangle]
+pub extern "C" fn yultarvas_check_summary(text: &[u8], rows: &[i32]) -> u32
+    ensures { λ r. ⌜ r ≡ checked (readingOf (now (text .entry))) (now (rows .entry)) ⌝ }
+{
+    summary::check(text, rows)
+}
+
+// The summary in `rows` of the page brought up to date for one word more, of which the low 48 bits count, and
+// how many blocks it is of then. Refused with 9 where the text is no page or has 64 blocks, then with 8 where
+// `rows` has fewer cells than the longer summary, then with 14 where `rows` are not the summary of the page.
+#[no_mangle]
+pub extern "C" fn yultarvas_add_word(
+    text: &[u8],
+    word: u64,
+    rows: &mut [i32],
+    blocks: &mut usize,
+) -> u32
+    ensures { λ r. ⌜ r ≡ addNumber (readingOf (now (text .entry))) (now (rows .entry)) ⌝ }
+    ensures { λ r. ⌜ now (rows .exit) ≡ addedRows (readingOf (now (text .entry))) word (now (rows .entry)) ⌝ }
+    ensures { λ r. ⌜ now (blocks .exit) ≡ left r (length (wordsIn (readingOf (now (text .entry)))) + 1) (now (blocks .entry)) ⌝ }
+{
+    let a = summary::add(text, word, rows);
+    let number = a.number;
+    if number != 0 {
+        return number;
+    }
+    *blocks = a.count;
     0
 }
 

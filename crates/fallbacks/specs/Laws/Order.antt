@@ -12,9 +12,10 @@ use lib.ListN.{length}
 use lib.IntN.{ℤ, pos, negsuc}
 use lib.Pow.{pow-add}
 use lib.Signed.{ltZ, _<ℤ_, ltZ-yes}
+use Rattle.laws.specs.Words.{square, norm}
 use Rattle.laws.specs.Laws.Tests.{and-left, and-right}
 use Rattle.laws.specs.Laws.Order.{Compared, less, same, more, trichotomy}
-use Rattle.fallbacks.specs.Region.{square, norm, NotGreater, NotAfter}
+use Rattle.fallbacks.specs.Region.{NotGreater, NotAfter}
 
 -- ---- a coordinate as a digit below 64: -16 is 0
 abbrev pub digit : ℤ → ℕ

@@ -1,12 +1,12 @@
 -- Whole numbers with a sign: quotient and remainder from the floor, magnitudes. Assumes nothing.
-use mathlib.Core.Path.{_≡_, refl, _∙_}
+use mathlib.Core.Path.{_≡_, refl, ap, _∙_}
 use mathlib.Core.Bool.{Bool, true, false, cond}
 use Prim.Native.Nat.{ℕ, suc, _+_, _-_, _*_, _/_, _%_, _<_, _≤_}
 use native.Mathlib.Omega.{arith}
 use borrow.Author.Tests.{ltb-true, ltb-false}
-use lib.Dec.{ltb}
+use lib.Dec.{T, ltb, eqb→eq, eqb-refl}
 use lib.IntN.{ℤ, pos, negsuc, subℕ, _+ℤ_}
-use Rattle.laws.specs.Words.{modZ}
+use Rattle.laws.specs.Words.{modZ, eqZ}
 
 -- ---- remainders
 pub bit-small : (x : ℕ) → x % 2 < 2
@@ -44,3 +44,14 @@ parity-add (pos a) (pos b) = omega arith
 parity-add (pos a) (negsuc b) = mod-sub a (suc b) ∙ omega arith
 parity-add (negsuc a) (pos b) = mod-sub b (suc a) ∙ omega arith
 parity-add (negsuc a) (negsuc b) = omega arith
+
+-- ---- whether two are one
+pub eqZ→eq : (a b : ℤ) → T (eqZ a b) → a ≡ b
+eqZ→eq (pos a) (pos b) t = ap pos (eqb→eq a b t)
+eqZ→eq (pos a) (negsuc b) t = absurd t
+eqZ→eq (negsuc a) (pos b) t = absurd t
+eqZ→eq (negsuc a) (negsuc b) t = ap negsuc (eqb→eq a b t)
+
+pub eqZ-refl : (a : ℤ) → T (eqZ a a)
+eqZ-refl (pos a) = eqb-refl a
+eqZ-refl (negsuc a) = eqb-refl a

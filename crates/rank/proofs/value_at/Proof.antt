@@ -9,8 +9,9 @@ use lib.IntN.{ℤ, pos}
 use lib.ListN.{getD}
 use mir.Syntax.{w32}
 use mir.Val.{toZ, ofZ}
+use Rattle.laws.specs.Words.{eqZ}
 use Rattle.laws.specs.Laws.Tests.{upto, below2}
-use Rattle.rank.specs.Laws.Coord.{eqZ, eqZ→eq}
+use Rattle.laws.specs.Laws.Whole.{eqZ→eq}
 use Rattle.rank.specs.Coord.{valOf}
 use Rattle.rank.proofs.value_at.Statement.{statement}
 use Rattle.rank.proofs.value_at.Tie as tie

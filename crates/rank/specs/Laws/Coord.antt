@@ -1,29 +1,16 @@
 -- Laws of coordinates: o = p + 2c, the rank of the member at a rank, the member at the rank of y, the parity of k by rank. Assumes nothing.
 use mathlib.Core.Path.{_≡_, ap, ap₂, sym, _∙_}
-use mathlib.Core.Bool.{Bool, false, _&&_}
+use mathlib.Core.Bool.{Bool, _&&_}
 use Prim.Native.Nat.{ℕ, _+_, _*_, _/_, _%_, _<_}
 use native.Mathlib.Omega.{arith}
 use lib.Pow.{shr-shr}
 use lib.Dec.{T, ltb, eqb, eqb→eq, lt→ltb}
 use lib.IntN.{ℤ, pos, negsuc}
 use Rattle.laws.specs.Laws.Tests.{and-left, and-right, split4, implies, modus, upto, below, below2}
-use Rattle.laws.specs.Words.{modZ}
-use Rattle.laws.specs.Laws.Whole.{mod4-lt}
+use Rattle.laws.specs.Words.{modZ, eqZ}
+use Rattle.laws.specs.Laws.Whole.{mod4-lt, eqZ→eq}
 use Rattle.rank.specs.Coord.{parityOf, bitOf, kOf, rankOf, valOf}
 use Rattle.rank.specs.Laws.RankOrder.{rank-is}
-
--- ---- whether two whole numbers are one
-abbrev pub eqZ : ℤ → ℤ → Bool
-eqZ (pos a) (pos b) = eqb a b
-eqZ (pos a) (negsuc b) = false
-eqZ (negsuc a) (pos b) = false
-eqZ (negsuc a) (negsuc b) = eqb a b
-
-pub eqZ→eq : (a b : ℤ) → T (eqZ a b) → a ≡ b
-eqZ→eq (pos a) (pos b) t = ap pos (eqb→eq a b t)
-eqZ→eq (pos a) (negsuc b) t = absurd t
-eqZ→eq (negsuc a) (pos b) t = absurd t
-eqZ→eq (negsuc a) (negsuc b) t = ap negsuc (eqb→eq a b t)
 
 -- ---- o = p + 2c
 quarter : (n : ℕ) → n % 2 + 2 * (n / 2 % 2) ≡ n % 4

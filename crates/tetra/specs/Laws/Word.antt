@@ -187,7 +187,7 @@ module _ (w : ℕ) where
   section2 = ap (λ (t : List ℤ). ranksOf (take 8 (drop 16 t))) (trio-of w) ∙ third-is (fieldsOf w) (split-narrow w)
 
   -- its coordinates have the parity of the field p
-  word-parity : (i : ℕ) → i < 24 → parityOf (getD (pointOf w) i (pos 0)) ≡ fieldsOf w .p
+  pub word-parity : (i : ℕ) → i < 24 → parityOf (getD (pointOf w) i (pos 0)) ≡ fieldsOf w .p
   unfolding pointOf trioPointOf
   word-parity =
       let f = fieldsOf w in

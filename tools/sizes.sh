@@ -1,0 +1,31 @@
+#!/usr/bin/env bash
+# Shows the summaries of trace pages: proves and builds the program sizes, and prints the summary of each page
+# that is named, or of the one on standard input: blocks=N, the page's row, and each block's, a line for each of
+# sum, largest, smallest and odd.
+#   bash tools/sizes.sh [PAGE ..]
+# Where more than one page is named, a line page=PAGE stands before what each gives. A text that is no page
+# gives refused=9. What is proved is said on standard error; the first time takes minutes, later ones about
+# a second.
+# Exit status: 0; 1 where a page was refused, or could not be read or shown, or the proof failed; 2 where an
+# argument is wrong.
+set -euo pipefail
+. "$(dirname "$0")/common.sh"
+help_if_asked "$@"
+for page in "$@"; do
+    case $page in -*) wrong "there is no option $page" ;; esac
+    if [ ! -e "$page" ]; then wrong "there is no file $page"; fi
+    if [ -d "$page" ] || [ ! -r "$page" ]; then wrong "$page cannot be read as a file"; fi
+done
+prove sizes
+if [ $# -eq 0 ]; then set -- /dev/stdin; fi
+several=$(($# > 1))
+answer=$(mktemp)
+trap 'rm -f "$answer"' EXIT
+status=0
+for page in "$@"; do
+    run sizes <"$page" >"$answer" || status=1
+    if [ "$several" -eq 1 ]; then echo "page=$page"; fi
+    cat "$answer"
+    if grep -q '^refused=' "$answer"; then status=1; fi
+done
+exit "$status"
