@@ -163,6 +163,7 @@ try 0 '^refused=11 section=2$' python3 tests/points_reading.py 0 0 0 0 0 0 12 0 
 untouched 2 'no library no/such' env YULTARVAS_LIB=no/such python3 tests/summary.py
 untouched 2 'tests/summary.py' python3 tests/summary.py 0
 untouched 2 'tests/summary.py' python3 tests/summary.py --wrong 1 2 3
+untouched 2 'no program sizes' env SIZES=no/such python3 tests/summary.py --program
 try 0 ', 0 not noticed$' python3 tests/summary.py --wrong 400
 untouched 2 'no program' env PROGRAMS=no/such python3 tests/writes.py
 untouched 2 'ORACLE has to name' python3 tests/written.py

@@ -4,6 +4,8 @@
     tests/summary.py [ADDS [SEED]]           20,000 adds and seed 1 where no number stands there
     tests/summary.py --wrong [ADDS [SEED]]   needs no library: wrong models answer the same requests, and each has
                                              to be noticed; 4,000 adds where no number stands there
+    tests/summary.py --program [ADDS [SEED]] the texts of those requests are put to the program sizes; 4,000 adds
+                                             where no number stands there
     tests/summary.py --help                  prints this
 
 There are a tenth as many pages afresh as adds, and a quarter as many damaged summaries. An add is one that is put word
@@ -11,6 +13,7 @@ by word to a page that grows, accepted or refused. Requests for the other refusa
 
 From the environment:
     YULTARVAS_LIB  a folder with a libyultarvas.a for this machine; target/native where it is not set
+    SIZES          the program sizes; target/bin/sizes, run by tools/run.sh, where it is not set
 
 Exit status: 0 all is as it should be; 1 something is not; 2 a wrong argument.
 
@@ -839,17 +842,44 @@ def library(requests):
     return differ == 0 and len(got) == len(requests)
 
 
+def printed(words):
+    """What sizes prints of a page's words, or of a text that is no page."""
+    if words is None:
+        return "refused=9\n"
+    cells = RIGHT.summary(words)
+    lines = ["blocks=%d" % len(words)]
+    for at in range(0, len(cells), 4):
+        lines += ["block=%d" % (at // 4 - 1)] if at else []
+        lines += ["%s=%d" % pair for pair in zip(("sum", "largest", "smallest", "odd"), cells[at:at + 4])]
+    return "".join(line + "\n" for line in lines)
+
+
+def program(requests):
+    """Whether the program prints what the model does, for each text that stands in the requests."""
+    run = [os.environ["SIZES"]] if "SIZES" in os.environ else ["bash", os.path.join(ROOT, "tools", "run.sh"), "sizes"]
+    texts = list(dict.fromkeys(request.text for request in requests if request.call == "summarise"))
+    bad = 0
+    for text in texts:
+        got = subprocess.run(run, input=text, stdout=subprocess.PIPE, check=False).stdout.decode()
+        if got != printed(reading(text)):
+            bad += 1
+            print("sizes of %r: %r" % (text, got))
+    pages = sum(reading(text) is not None for text in texts)
+    print("%d texts put to sizes, %d of them pages, %d differ" % (len(texts), pages, bad))
+    return bad == 0
+
+
 def main(arguments):
     if arguments in (["-h"], ["--help"]):
         print(__doc__.strip())
         return 0
-    models = arguments[:1] == ["--wrong"]
-    numbers = arguments[1:] if models else arguments
+    how = arguments[0] if arguments[:1] in (["--wrong"], ["--program"]) else ""
+    numbers = arguments[1:] if how else arguments
     if len(numbers) > 2 or not all(n.isascii() and n.isdigit() for n in numbers) or (numbers and int(numbers[0]) == 0):
         print(__doc__.strip(), file=sys.stderr)
         return 2
     folder = os.environ.setdefault("YULTARVAS_LIB", os.path.join(ROOT, "target", "native"))
-    if not models and not os.path.exists(os.path.join(folder, "libyultarvas.a")):
+    if not how and not os.path.exists(os.path.join(folder, "libyultarvas.a")):
         print("tests/summary.py: there is no library %s" % os.path.join(folder, "libyultarvas.a"), file=sys.stderr)
         return 2
     missed = misses(RIGHT)
@@ -857,11 +887,14 @@ def main(arguments):
     if missed:
         print("the model does not give %s" % " ".join(missed))
         return 1
-    adds, seed = [int(n) for n in numbers] + [4000 if models else 20000, 1][len(numbers):]
+    if how == "--program" and not os.access(os.environ.get("SIZES", os.path.join(ROOT, "target", "bin", "sizes")), os.X_OK):
+        print("tests/summary.py: there is no program sizes: rt check sizes builds target/bin/sizes, or SIZES names another", file=sys.stderr)
+        return 2
+    adds, seed = [int(n) for n in numbers] + [4000 if how else 20000, 1][len(numbers):]
     requests = made(adds, seed)
     if requests is None:
         return 1
-    return 0 if (wrong if models else library)(requests) else 1
+    return 0 if {"": library, "--wrong": wrong, "--program": program}[how](requests) else 1
 
 
 if __name__ == "__main__":

@@ -93,3 +93,27 @@ run() {
     rm -f "$said"
     return "$status"
 }
+
+# Proves the program $1 and runs it on each page that is named behind it, or on standard input, and ends: with
+# status 1 where a page was refused, or could not be read or shown.
+of_pages() {
+    local program=$1 page several status=0
+    shift
+    for page in "$@"; do
+        case $page in -*) wrong "there is no option $page" ;; esac
+        if [ ! -e "$page" ]; then wrong "there is no file $page"; fi
+        if [ -d "$page" ] || [ ! -r "$page" ]; then wrong "$page cannot be read as a file"; fi
+    done
+    prove "$program"
+    if [ $# -eq 0 ]; then set -- /dev/stdin; fi
+    several=$(($# > 1))
+    answer=$(mktemp)
+    trap 'rm -f "$answer"' EXIT
+    for page in "$@"; do
+        run "$program" <"$page" >"$answer" || status=1
+        if [ "$several" -eq 1 ]; then echo "page=$page"; fi
+        cat "$answer"
+        if grep -q '^refused=' "$answer"; then status=1; fi
+    done
+    exit "$status"
+}

@@ -2,7 +2,7 @@
 # Builds programs of this repository, and the static library, for the machine that it stands on: Linux on
 # x86-64 or Arm (aarch64).
 #   bash tools/native.sh [CRATE ..]
-# With no CRATE these are unpage, mkpage, ask and yultarvas. A program goes to target/native/CRATE, the
+# With no CRATE these are unpage, mkpage, sizes, ask and yultarvas. A program goes to target/native/CRATE, the
 # library to target/native/libyultarvas.a. It needs the Rattle toolchain and a C compiler (CC, or cc), which
 # links a program.
 #
@@ -26,7 +26,7 @@ cd "$(dirname "$0")/.."
 machine=$(uname -m)
 case $machine in x86_64 | aarch64) ;; *) refuse "the toolchain is for x86-64 and aarch64, and this is $machine" ;; esac
 command -v rt >/dev/null || refuse "no rt on the path: it is the Rattle toolchain's command"
-if [ $# -eq 0 ]; then set -- unpage mkpage ask yultarvas; fi
+if [ $# -eq 0 ]; then set -- unpage mkpage sizes ask yultarvas; fi
 for crate in "$@"; do
     grep -q "^$crate:" crates.txt || refuse "crates.txt has no crate $crate"
 done

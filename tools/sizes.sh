@@ -11,21 +11,4 @@
 set -euo pipefail
 . "$(dirname "$0")/common.sh"
 help_if_asked "$@"
-for page in "$@"; do
-    case $page in -*) wrong "there is no option $page" ;; esac
-    if [ ! -e "$page" ]; then wrong "there is no file $page"; fi
-    if [ -d "$page" ] || [ ! -r "$page" ]; then wrong "$page cannot be read as a file"; fi
-done
-prove sizes
-if [ $# -eq 0 ]; then set -- /dev/stdin; fi
-several=$(($# > 1))
-answer=$(mktemp)
-trap 'rm -f "$answer"' EXIT
-status=0
-for page in "$@"; do
-    run sizes <"$page" >"$answer" || status=1
-    if [ "$several" -eq 1 ]; then echo "page=$page"; fi
-    cat "$answer"
-    if grep -q '^refused=' "$answer"; then status=1; fi
-done
-exit "$status"
+of_pages sizes "$@"
