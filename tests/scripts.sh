@@ -48,9 +48,20 @@ cat >"$work/repo/target/bin/ask" <<'STAND_IN'
 #!/usr/bin/env bash
 while read -r line; do case $line in 'decode 1') echo point=1 ;; *) echo refused=9 ;; esac; done
 STAND_IN
-chmod +x "$work/bin/rt" "$work/repo/target/bin/"*
+# Lists the sections that PARTS names, each as name=size=flags, the size in hexadecimal.
+cat >"$work/bin/readelf" <<'STAND_IN'
+#!/usr/bin/env bash
+if [ "$1" = -hW ]; then echo "  Machine:                           ${MACHINE:-Advanced Micro Devices X86-64}"; exit; fi
+n=0
+for part in $PARTS; do
+    IFS='=' read -r name size flags <<<"$part"
+    printf '  [%2d] %s PROGBITS        0000000000000000 000040 %s 00 %s  0   0 16\n' "$n" "$name" "$size" "$flags"
+    n=$((n + 1))
+done
+STAND_IN
+chmod +x "$work/bin/"* "$work/repo/target/bin/"*
 export PATH=$work/bin:$PATH RUN=env CALLED=$work/called
-unset ORACLE ASK GEN KINDS PROGRAM NEAREST UNPAGE MKPAGE PROGRAMS
+unset ORACLE ASK GEN KINDS PROGRAM NEAREST UNPAGE MKPAGE PROGRAMS YULTARVAS_LIB
 cd "$work/repo"
 echo text >no.page
 sed 's/^num=256$/num=1/' samples/example.trace >far.trace
@@ -139,6 +150,20 @@ untouched 2 'no request decod' bash tools/ask.sh decod 1
 try 0 '^point=1$' bash tools/ask.sh decode 1
 try 1 '^refused=9$' bash tools/ask.sh decode g
 try 0 '^point=1$' bash -c 'echo decode 1 | bash tools/ask.sh'
+
+mkdir library
+touch library/libyultarvas.a
+rom() { env YULTARVAS_LIB=library PARTS="$*" bash tools/rom.sh; }
+untouched 2 'no no/such/libyultarvas.a' env YULTARVAS_LIB=no/such bash tools/rom.sh
+untouched 2 'not for x86-64' env YULTARVAS_LIB=library MACHINE=AArch64 bash tools/rom.sh
+try 1 'not built' env RT_SAYS=no bash tools/rom.sh
+try 0 '^ *23 *tetra$' rom .text.tetra::decode=000010=AX .text.tetra::encode=000007=AX .text.yultarvas_decode=000010=AX
+try 0 '^ *16 *yultarvas$' rom .text.yultarvas_decode=000010=AX
+try 0 '^code 32, constants 16, together 48;' rom .text.word::get=000020=AX .rodata.cst16=000010=AM .comment=00000e=MS
+try 0 '^ *16280 *rows::look$' rom .text.rows::look=003f98=AX
+try 1 'rows::row has 15390 bytes' rom .text.rows::look=003f98=AX .text.rows::row=003c1e=AX
+try 1 'can be written' rom .text.word::get=000020=AX .data.word=000004=WA
+try 1 'more than was recorded' rom .text.word::get=000020=AX .rodata.cst16=020000=AM
 
 untouched 2 'name of one program' bash tools/run.sh
 untouched 2 'no target/bin/nothing' bash tools/run.sh nothing

@@ -31,7 +31,7 @@ pub enum Ranked {
 }
 
 // The members of o + 4Z by rank, eight for each o.
-const VALUES: [i32; 32] = [
+const VALUES: [i8; 32] = [
     0,
     4,
     -4,
@@ -66,11 +66,17 @@ const VALUES: [i32; 32] = [
     15,
 ];
 
+fn wide(x: i8) -> i32
+    ensures { λ r. ⌜ r ≡ x ⌝ }
+{
+    x as i32
+}
+
 fn value_at(o: u32, rho: u32) -> i32
     requires { ⌜ (o < 4) × (rho < 8) ⌝ }
     ensures { λ r. ⌜ r ≡ valOf o rho ⌝ }
 {
-    VALUES[(o * 8 + rho) as usize]
+    wide(VALUES[(o * 8 + rho) as usize])
 }
 
 // The member of o + 4Z at the rank `rho`, outward from zero, positive first.

@@ -1,6 +1,7 @@
-// Prints what the functions of rank answer on document 01's examples and at the edges of what they take.
+// Prints what the functions of rank and rows answer on document 01's examples and at the edges of what they take.
 use rank::Bound;
 use rank::Ranked;
+use rows::Seated;
 
 // After a write that fails nothing more is written: standard output is closed, and each later write fails
 // too.
@@ -110,6 +111,43 @@ fn show_pack(rho: [u32; 8]) {
     text(b"\n");
 }
 
+fn seat(s: Seated) {
+    match s {
+        Seated::At { class, index } => {
+            part(b": class ", class);
+            part(b" index ", index as u32);
+        }
+        Seated::Nothing => text(b": none"),
+    }
+    text(b"\n");
+}
+
+fn show_class_index(rho: [u32; 8]) {
+    text(b"class_index");
+    ranks(rho);
+    seat(rows::class_index(rho));
+}
+
+fn show_mixed_index(rho: [u32; 8]) {
+    text(b"mixed_index");
+    ranks(rho);
+    seat(rows::mixed_index(rho));
+}
+
+fn show_row(i: u32) {
+    part(b"row ", i);
+    text(b": ");
+    or_close(io::print_hex(1, rows::row(i as usize) as u64, 8));
+    text(b"\n");
+}
+
+fn show_find(w: u32) {
+    text(b"find ");
+    or_close(io::print_hex(1, w as u64, 8));
+    part(b": ", rows::find(w));
+    text(b"\n");
+}
+
 fn values() {
     show_val(0, 0);
     show_val(0, 1);
@@ -161,6 +199,32 @@ fn edges() {
     show_pack([16, 0, 0, 0, 0, 0, 0, 17]);
 }
 
+// The last row of each class and the vector after it, those of the middle section, and vectors that no packed row is.
+fn seats() {
+    show_class_index([1, 1, 0, 3, 0, 0, 1, 1]);
+    show_class_index([1, 1, 0, 3, 0, 1, 0, 1]);
+    show_class_index([0, 0, 2, 2, 2, 0, 1, 1]);
+    show_class_index([0, 0, 2, 2, 2, 1, 0, 1]);
+    show_mixed_index([3, 0, 0, 0, 1, 0, 1, 0]);
+    show_mixed_index([3, 0, 0, 0, 1, 1, 0, 0]);
+    show_mixed_index([0, 0, 0, 0, 0, 0, 0, 1]);
+    show_class_index([16, 0, 0, 0, 0, 0, 0, 0]);
+    show_class_index([5, 0, 0, 0, 0, 0, 0, 0]);
+}
+
+fn packed_rows() {
+    show_row(0);
+    show_row(2047);
+    show_row(2048);
+    show_row(4095);
+    show_row(4096);
+    show_find(0);
+    show_find(0x11003011);
+    show_find(0x10000000);
+    show_find(0x11022200);
+    show_find(0xffffffff);
+}
+
 fn main() {
     values();
     lookups();
@@ -168,4 +232,6 @@ fn main() {
     bounds();
     cuts();
     edges();
+    seats();
+    packed_rows();
 }

@@ -3,7 +3,8 @@ mod tables;
 
 use rank::Bound;
 ghost use mathlib.Core.Path.{_≡_};
-ghost use Prim.Native.Nat.{ℕ, _<_};
+ghost use mathlib.Core.Bool.{cond};
+ghost use Prim.Native.Nat.{ℕ, _%_, _<_};
 ghost use lib.ListN.{getD};
 ghost use Rattle.rank.specs.Vector.{unpack, within};
 ghost use Rattle.rows.specs.Rows.{rows};
@@ -32,17 +33,6 @@ pub fn rows() -> [u32; 4096]
     ensures { λ r. ⌜ r ≡ rows ⌝ }
 {
     tables::TABLE
-}
-
-// Row `i`, packed; 0 past the table.
-pub fn row(i: usize) -> u32
-    ensures { λ r. ⌜ r ≡ getD rows i 0 ⌝ }
-{
-    if i < ROWS as usize {
-        let t = rows();
-        return t[i];
-    }
-    0
 }
 
 // Whether the packed row `x` comes no later than the last vector of the bound: by cost, then by ranks, coordinate 0 most significant.
@@ -79,16 +69,37 @@ fn place_of(t: &[u32; 4096], w: u32) -> usize
     lo
 }
 
+// Row `x % 4096`; or, looked up `back`, the number of the row packed in `x`, 4096 where no row is. Both ways of looking are one function, so that
+// the table is made in one place of a program: making it takes 15 KB of code beside its 16 KiB of numbers (tools/rom.sh counts them).
+fn look(back: bool, x: u32) -> u32
+    ensures { λ r. ⌜ r ≡ cond back (findOf x) (getD rows (x % 4096) 0) ⌝ }
+{
+    let t = rows();
+    if back {
+        let i = place_of(&t, x);
+        if t[i] == x {
+            return i as u32;
+        }
+        return ROWS;
+    }
+    t[(x % ROWS) as usize]
+}
+
+// Row `i`, packed; 0 past the table.
+pub fn row(i: usize) -> u32
+    ensures { λ r. ⌜ r ≡ getD rows i 0 ⌝ }
+{
+    if i < ROWS as usize {
+        return look(false, i as u32);
+    }
+    0
+}
+
 // The number of the row packed in `w`, or 4096 where no row is.
 pub fn find(w: u32) -> u32
     ensures { λ r. ⌜ r ≡ findOf w ⌝ }
 {
-    let t = rows();
-    let i = place_of(&t, w);
-    if t[i] == w {
-        return i as u32;
-    }
-    ROWS
+    look(true, w)
 }
 
 // The class and the index of row `p`, if there is one.

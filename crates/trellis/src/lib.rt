@@ -111,7 +111,13 @@ pub fn label_of(c: u32) -> u32
     4096
 }
 
-// ---- trio order
+// ---- trio order, kept as bytes
+fn wide(x: u8) -> usize
+    ensures { λ r. ⌜ r ≡ x ⌝ }
+{
+    x as usize
+}
+
 // The coordinate at place `j` of trio order; 0 past the last place.
 pub fn order(j: usize) -> usize
     ensures { λ r. ⌜ r ≡ getD order j 0 ⌝ }
@@ -119,7 +125,7 @@ pub fn order(j: usize) -> usize
     if 24 <= j {
         return 0;
     }
-    tables::ORDER[j]
+    wide(tables::ORDER[j])
 }
 
 // The place of coordinate `i` in trio order; 0 past the last coordinate.
@@ -129,7 +135,7 @@ pub fn place(i: usize) -> usize
     if 24 <= i {
         return 0;
     }
-    tables::PLACES[i]
+    wide(tables::PLACES[i])
 }
 
 // ---- the trellis

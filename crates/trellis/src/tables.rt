@@ -1,6 +1,6 @@
 // Trio order, and the tables of the trellis. Each row's first entry names it.
 // The coordinate at each place of trio order, an octad to a row.
-pub const ORDER: [usize; 24] = [
+pub const ORDER: [u8; 24] = [
     0, // octad 0
     1,
     2,
@@ -28,7 +28,7 @@ pub const ORDER: [usize; 24] = [
 ];
 
 // The place of each coordinate.
-pub const PLACES: [usize; 24] = [
+pub const PLACES: [u8; 24] = [
     0, // coordinates from 0
     1,
     2,

@@ -1,7 +1,7 @@
 -- `rows::row` meets its contract: past the table there is nothing. Assumes nothing.
-use mathlib.Core.Path.{sym, ap}
-use mathlib.Core.List.{List}
+use mathlib.Core.Path.{sym, ap, _∙_}
 use Prim.Native.Nat.{ℕ}
+use native.Mathlib.Nat.{mod-eq-of-lt}
 use native.Mathlib.Omega.{arith}
 use borrow.Author.Needs.{needs}
 use lib.ListN.{getD, List·getD-eq-default}
@@ -13,20 +13,17 @@ use Rattle.rows.proofs.row.Tie as tie
 cast-if1 : tie.Need-cast-if1
 cast-if1 c = search needs
 
-rows-requires : tie.Need-rows-requires
-rows-requires c κs = search needs
+cast-look : tie.Need-cast-look
+cast-look c = search needs
 
-mul-result : tie.Need-mul-result
-mul-result c = search needs
-
-array-read-result : tie.Need-array-read-result
-array-read-result c = search needs
+look-requires : tie.Need-look-requires
+look-requires c κs = search needs
 
 returns : tie.Need-returns
-returns c = ap (λ (t : List ℕ). getD t (c .before .before .args .i) 0) (c .rows .ensures)
+returns c = c .look .ensures ∙ ap (λ (n : ℕ). getD rows n 0) (mod-eq-of-lt (omega (arith, c .before .if1 .taken)))
 
 returns-2 : tie.Need-returns-2
 returns-2 c = sym (List·getD-eq-default rows 0 (omega (arith, count)))
 
 pub row-spec : {M : Type 1} → statement M
-row-spec = tie.close (tie.spec cast-if1 rows-requires mul-result array-read-result returns returns-2)
+row-spec = tie.close (tie.spec cast-if1 cast-look look-requires returns returns-2)
