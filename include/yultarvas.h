@@ -20,6 +20,9 @@
  * up to 121 KB of stack (120,816 bytes on aarch64), the other calls up to 20 KB. No theorem bounds the stack:
  * tools/stack.sh measures it. Have YULTARVAS_STACK bytes left.
  *
+ * Memory. Code and constants take 78 KB on x86-64 (tools/rom.sh measures them), and nothing of the library
+ * can be written.
+ *
  * Doubles. The contracts are over IEEE 754 doubles, rounded to nearest with ties to even, subnormal numbers
  * kept. That is how a thread starts; a host that has set another rounding mode or flush-to-zero (as a program
  * linked with -ffast-math does) gets other answers with no refusal. yultarvas_environment_now tells. */
@@ -36,8 +39,8 @@ extern "C" {
 /* The version of this header and of the calls that it declares. */
 #define YULTARVAS_VERSION_MAJOR 0
 #define YULTARVAS_VERSION_MINOR 6
-#define YULTARVAS_VERSION_PATCH 0
-#define YULTARVAS_VERSION "0.6.0"
+#define YULTARVAS_VERSION_PATCH 1
+#define YULTARVAS_VERSION "0.6.1"
 
 /* Samples of a block, coordinates of a point; the most blocks of a page; the most counts of a page; the most
  * bytes of a page's text; the most cells of a page's summary. */

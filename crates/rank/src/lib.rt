@@ -30,7 +30,7 @@ pub enum Ranked {
     Refused,
 }
 
-// The members of o + 4Z by rank, eight for each o.
+// The members of o + 4Z by rank, eight for each o. In bytes: a constant array is made anew wherever it is read.
 const VALUES: [i8; 32] = [
     0,
     4,
@@ -66,6 +66,7 @@ const VALUES: [i8; 32] = [
     15,
 ];
 
+// A member as it is kept, as a number.
 fn wide(x: i8) -> i32
     ensures { λ r. ⌜ r ≡ x ⌝ }
 {

@@ -111,7 +111,8 @@ pub fn label_of(c: u32) -> u32
     4096
 }
 
-// ---- trio order, kept as bytes
+// ---- trio order
+// A coordinate or a place as it is kept, as a number.
 fn wide(x: u8) -> usize
     ensures { λ r. ⌜ r ≡ x ⌝ }
 {

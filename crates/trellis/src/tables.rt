@@ -1,4 +1,4 @@
-// Trio order, and the tables of the trellis. Each row's first entry names it.
+// Trio order, and the tables of the trellis, all in bytes. Each row's first entry names it.
 // The coordinate at each place of trio order, an octad to a row.
 pub const ORDER: [u8; 24] = [
     0, // octad 0
