@@ -14,6 +14,8 @@
 //! (120,816 bytes on aarch64; tools/stack.sh measures it, and no theorem bounds it): more than some threads
 //! have. Have [`STACK`] bytes left.
 //!
+//! **Memory.** Code and constants of the library take 78 KB on x86-64 (tools/rom.sh measures them).
+//!
 //! **Threads.** No call keeps anything, allocates or locks: any number of threads may call at once.
 //!
 //! ```
