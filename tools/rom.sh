@@ -1,8 +1,8 @@
 #!/usr/bin/env bash
 # Measures how much read-only memory the static library takes: its code and its constants, by part.
 #   bash tools/rom.sh
-# It has the toolchain prove and build the library for x86-64 (`rt staticlib`), on any machine, unless
-# YULTARVAS_LIB names a folder with a libyultarvas.a for x86-64. It needs readelf, of GNU binutils.
+# It has the toolchain prove and build the library for x86-64 (`rt staticlib`), unless YULTARVAS_LIB names a
+# folder with a libyultarvas.a for x86-64. It needs readelf, of GNU binutils.
 #
 # A constant array is made anew in each function that reads it: beside its bytes it takes nearly as many of
 # code, in each of them. So a table that comes to be read in a second place is seen here and nowhere else. It
