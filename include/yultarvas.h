@@ -16,9 +16,10 @@
  * stack, so any number of threads may call at once, as long as they do not lend the same memory for writing.
  * No call allocates or locks; of the host it uses memcpy, memmove and memset alone.
  *
- * Stack. yultarvas_encode, yultarvas_encode_with, yultarvas_encode_at_scale and yultarvas_write_page take
- * up to 121 KB of stack (120,816 bytes on aarch64), the other calls up to 20 KB. No theorem bounds the stack:
- * tools/stack.sh measures it. Have YULTARVAS_STACK bytes left.
+ * Stack. yultarvas_encode, yultarvas_encode_with, yultarvas_encode_at_scale, the same three of the even
+ * profile (yultarvas_even_encode, yultarvas_even_encode_with, yultarvas_even_encode_at_scale) and
+ * yultarvas_write_page take up to 121 KB of stack (120,816 bytes on aarch64), the other calls up to 20 KB. No
+ * theorem bounds the stack: tools/stack.sh measures it. Have YULTARVAS_STACK bytes left.
  *
  * Memory. Code and constants take 78 KB on x86-64 (tools/rom.sh measures them), and nothing of the library
  * can be written.
@@ -38,9 +39,9 @@ extern "C" {
 
 /* The version of this header and of the calls that it declares. */
 #define YULTARVAS_VERSION_MAJOR 0
-#define YULTARVAS_VERSION_MINOR 6
-#define YULTARVAS_VERSION_PATCH 1
-#define YULTARVAS_VERSION "0.6.1"
+#define YULTARVAS_VERSION_MINOR 7
+#define YULTARVAS_VERSION_PATCH 0
+#define YULTARVAS_VERSION "0.7.0"
 
 /* Samples of a block, coordinates of a point; the most blocks of a page; the most counts of a page; the most
  * bytes of a page's text; the most cells of a page's summary. */
@@ -68,6 +69,8 @@ enum yultarvas_number {
     YULTARVAS_OUTSIDE = 11,        /* no word: a section is outside its bound; yultarvas_outside says which */
     YULTARVAS_WRONG_SUM = 12,      /* no word: the sum of the coordinates' quarters is odd and they are even,
                                       or even and they are odd */
+    YULTARVAS_ALL_ODD = 13,        /* not in the even profile: a word whose p is 1, or a point whose
+                                      coordinates are all odd */
     YULTARVAS_DISAGREES = 14       /* the summary and the page disagree */
 };
 
@@ -95,14 +98,17 @@ uint32_t yultarvas_encode_point(const int32_t *point, size_t point_len, uint64_t
  *   3  5, 8, 9, 15, 20, 21, 22, 23. */
 uint32_t yultarvas_outside(const int32_t *point, size_t point_len);
 
-/* Whether a number that yultarvas_encode_point answered says that no word decodes to the point. */
+/* Whether a number that yultarvas_encode_point answered says that no word decodes to the point. 13
+ * does not: yultarvas_even_encode_point answers it for every point whose coordinates are all odd, and such a
+ * point may have a word. */
 static inline int yultarvas_no_word(uint32_t number) {
     return number == YULTARVAS_MIXED_PARITY || number == YULTARVAS_NO_CODEWORD || number == YULTARVAS_OUTSIDE
            || number == YULTARVAS_WRONG_SUM;
 }
 
-/* That in a sentence for the bench, with the section that yultarvas_outside answers; an empty text for every
- * other number. The Rust crate has the same sentences. */
+/* That in a sentence for the bench, with the section that yultarvas_outside answers. 13 has a sentence too,
+ * since the bench shows what yultarvas_even_encode_point answers in the same place; every other number has an
+ * empty text. The Rust crate has the same sentences. */
 static inline const char *yultarvas_why_no_word(uint32_t number, uint32_t section) {
     switch (number) {
     case YULTARVAS_MIXED_PARITY: return "the point has no word: its coordinates are not all even or all odd";
@@ -124,6 +130,8 @@ static inline const char *yultarvas_why_no_word(uint32_t number, uint32_t sectio
     case YULTARVAS_WRONG_SUM:
         return "the point has no word: the sum of its coordinates' quarters, each rounded down, is odd "
                "where they are even, or even where they are odd; changing one by 4 mends it";
+    case YULTARVAS_ALL_ODD:
+        return "the even profile has no odd points: a word's p is 1, or a point's coordinates are all odd";
     default: return "";
     }
 }
@@ -218,6 +226,47 @@ uint32_t yultarvas_check_summary(const uint8_t *text, size_t text_len, const int
  * all zeros, which can leave the page's row as it was. */
 uint32_t yultarvas_add_word(const uint8_t *text, size_t text_len, uint64_t word, int32_t *rows,
                             size_t rows_len, size_t *blocks);
+
+/* ---- the even profile
+ *
+ * For a channel whose readers know even points alone: words whose p, bit 0, is 0, and points whose
+ * coordinates are all even. A word or a point that the profile accepts is answered as by the call that has no
+ * `even_` in its name. An odd word, one whose p is 1, is refused with 13, and so is a point whose coordinates
+ * are all odd.
+ *
+ * The calls for samples search the even points alone, so that 13 never comes up in them. Where the full
+ * coder's point is odd, theirs is another one. At a scale, where the full coder's point is even, they give
+ * the same code; at the scale that the samples give it can be another, also where both points are even. */
+
+/* Whether the profile has a word: YULTARVAS_OK where its p is 0. No other bit counts. Refused: 13. */
+uint32_t yultarvas_even_check(uint64_t word);
+
+/* The point of a word, as yultarvas_decode gives it. Refused: 8, 13. */
+uint32_t yultarvas_even_decode(uint64_t word, int32_t *point, size_t point_len);
+
+/* The word of a point, as yultarvas_encode_point gives it. Refused: 8; 5; 13 where all 24 coordinates are
+ * odd, whether or not the point has a word; 10, 11, 12. yultarvas_outside has the section of 11. It does not
+ * know the profile, so it may answer a section where this call answers 13. */
+uint32_t yultarvas_even_encode_point(const int32_t *point, size_t point_len, uint64_t *word);
+
+/* The code of samples at the scale that they give. Samples that are all zero have word 0 and the score minus
+ * infinity. Refused: 8, 1, 2. */
+uint32_t yultarvas_even_encode(const double *samples, size_t samples_len, uint64_t *word, int32_t *point,
+                               size_t point_len, double *score);
+
+/* The same at a setting, as yultarvas_encode_with takes it. Refused: 8, 7, 1, 2. */
+uint32_t yultarvas_even_encode_with(const double *samples, size_t samples_len, uint32_t setting,
+                                    uint64_t *word, int32_t *point, size_t point_len, double *score);
+
+/* At a scale and a setting. Refused: 8, 7, 3, 1, 2, 4. */
+uint32_t yultarvas_even_encode_at_scale(const double *samples, size_t samples_len, double scale,
+                                        uint32_t setting, uint64_t *word, int32_t *point, size_t point_len,
+                                        double *score);
+
+/* The counts of a page that has no odd word, as yultarvas_read_page gives them. A page with any odd word is
+ * refused whole, and counts and blocks stay as they were. Refused: 9, 13, 8. */
+uint32_t yultarvas_even_read_page(const uint8_t *text, size_t text_len, int32_t *counts, size_t counts_len,
+                                  size_t *blocks);
 
 /* ---- the environment */
 

@@ -260,7 +260,7 @@ def own_scales(x):
     return x, s0, s0 * RATIO, m
 
 
-# ---- §8 the numbers of samples
+# ---- §9 the numbers of samples
 
 def samples_number(x):
     if any(math.isnan(v) or math.isinf(v) for v in x):

@@ -131,6 +131,12 @@ def read(text, cells):
     return (8, 0) if cells < 24 * len(page[1]) else (0, len(page[1]))
 
 
+def even_read(text, cells):
+    """Those of the even profile's call: a page with an odd word is refused with 13, after 9 and before 8."""
+    page = reading(text)
+    return (13, 0) if page is not None and any(word % 2 for word in page[1]) else read(text, cells)
+
+
 # ---- texts
 
 def text_of(num, words, count=None):
@@ -222,16 +228,21 @@ def halves():
     return [text_of(384, [1]), text_of(128, [0x5CF4F4BEA973]), text_of(64, [256]), text_of(32, [0x3800])]
 
 
+def evens():
+    """Pages of even words, one of them too long for 24 cells; with a gain; and one whose last word is odd."""
+    return [text_of(128, [0x3800]), text_of(128, [0x3800, 256]), text_of(128, [1 << 47]), text_of(128, [0x3800, 1])]
+
+
 def for_the_gate():
     rng = random.Random(2)
     return [EXAMPLE, text_of(1, []), text_of(65535, words(rng, 64)), text_of(640, [1, 256]), *halves(), text_of(129, [(1 << 48) - 1]),
-            EXAMPLE[:-1], EXAMPLE + b"\n", EXAMPLE.replace(b"128", b"0128"), EXAMPLE.replace(b"128", b"0"), EXAMPLE.replace(b"128", b"65536"),
+            *evens(), EXAMPLE[:-1], EXAMPLE + b"\n", EXAMPLE.replace(b"128", b"0128"), EXAMPLE.replace(b"128", b"0"), EXAMPLE.replace(b"128", b"65536"),
             LETTERS.replace(b"abc", b"ABC"), EXAMPLE.replace(b"\n", b"\r\n"), text_of(1, list(range(65))), text_of(1, [0], 2), b""]
 
 
 def gate_files():
     texts = for_the_gate()
-    out = b"".join(b"number=%d count=%d\n" % read(text, 24) + printed(text) for text in texts)
+    out = b"".join(b"number=%d count=%d\neven number=%d count=%d\n" % (*read(text, 24), *even_read(text, 24)) + printed(text) for text in texts)
     return {"stdin": b"%".join(texts), "stdout": out}
 
 

@@ -48,6 +48,49 @@ cat >"$work/repo/target/bin/ask" <<'STAND_IN'
 #!/usr/bin/env bash
 while read -r line; do case $line in 'decode 1') echo point=1 ;; *) echo refused=9 ;; esac; done
 STAND_IN
+# Prints a request of each of three kinds, as a generator; and answers any block by the word that ends in LAST, as the Rust.
+cat >"$work/bin/oracle" <<'STAND_IN'
+#!/usr/bin/env bash
+if [ "${1:-}" = gen ]; then printf '%s\n' 'decode 1' 'scale 8 0' 'auto 8 0'; exit; fi
+while read -r _; do echo "word=00000000000${LAST:-0} score=0 point=0"; done
+STAND_IN
+# Answers the blocks of the even profile alone, those at their own scale by the word that ends in OWN.
+cat >"$work/bin/even_blocks" <<'STAND_IN'
+#!/usr/bin/env bash
+while read -r name _; do
+    case $name in
+    escale) echo "word=000000000000 score=0 point=0" ;;
+    eauto) echo "word=00000000000${OWN:-0} score=0 point=0" ;;
+    *) echo refused=9 ;;
+    esac
+done
+STAND_IN
+# Asks for the point 0, by escale where the even profile is wanted.
+cat >"$work/bin/nearest_points" <<'STAND_IN'
+#!/usr/bin/env bash
+if [ "${5:-}" = even ]; then echo 'escale 8 0' >"$3"; else echo 'scale 8 0' >"$3"; fi
+echo 0 >"$4"
+STAND_IN
+# Answers words and points by the decoder of the format, and with 13 for the even profile. Where it is told to, it looks for odd coordinates at the
+# first alone, or says 13 only of points that have a word.
+cat >"$work/bin/even_points" <<'STAND_IN'
+#!/usr/bin/env python3
+import os
+import sys
+sys.dont_write_bytecode = True
+sys.path.insert(0, "tests")
+import format_decoder as decoder
+for line in sys.stdin:
+    name, *rest = line.split()
+    if name.endswith("decode"):
+        word = int(rest[0], 16)
+        said, odd = "point=" + ",".join(map(str, decoder.point(word))), word % 2 == 1
+    else:
+        y = [int(v) for v in rest]
+        said, odd = decoder.answer(y), all(v % 2 == 1 for v in (y[:1] if "FIRST" in os.environ else y))
+        odd = odd and not ("LATE" in os.environ and said.startswith("refused"))
+    print("refused=13" if odd and name.startswith("e") else said)
+STAND_IN
 # Lists the sections that PARTS names, each as name=size=flags, the size in hexadecimal.
 cat >"$work/bin/readelf" <<'STAND_IN'
 #!/usr/bin/env bash
@@ -60,8 +103,9 @@ for part in $PARTS; do
 done
 STAND_IN
 chmod +x "$work/bin/"* "$work/repo/target/bin/"*
-export PATH=$work/bin:$PATH RUN=env CALLED=$work/called
-unset ORACLE ASK GEN KINDS PROGRAM NEAREST UNPAGE MKPAGE PROGRAMS YULTARVAS_LIB
+# TMPDIR: what a script leaves where answers differ goes with the rest.
+export PATH=$work/bin:$PATH RUN=env CALLED=$work/called TMPDIR=$work
+unset ORACLE ASK GEN KINDS EVEN PROGRAM NEAREST UNPAGE MKPAGE PROGRAMS YULTARVAS_LIB
 cd "$work/repo"
 echo text >no.page
 sed 's/^num=256$/num=1/' samples/example.trace >far.trace
@@ -95,7 +139,7 @@ for script in tools/*.sh tools/nearest/*.sh tests/*.sh; do
     untouched 0 "bash $script" bash "$script" --help
     untouched 2 "bash $script" bash "$script" --no-such-option
 done
-for script in tools/float_vectors.py tests/pages.py tests/points.py tests/summary.py tests/writes.py tests/written.py; do
+for script in tools/float_vectors.py tests/even.py tests/pages.py tests/points.py tests/summary.py tests/writes.py tests/written.py; do
     untouched 0 "$script" python3 "$script" --help
     untouched 2 "$script" python3 "$script" --no-such-option
     untouched 2 "$script" python3 "$script" word
@@ -149,6 +193,7 @@ try 1 'cannot be read' env FAILS=1 bash tools/mkpage.sh samples/example.trace
 untouched 2 'no request decod' bash tools/ask.sh decod 1
 try 0 '^point=1$' bash tools/ask.sh decode 1
 try 1 '^refused=9$' bash tools/ask.sh decode g
+try 1 '^refused=9$' bash tools/ask.sh edecode g
 try 0 '^point=1$' bash -c 'echo decode 1 | bash tools/ask.sh'
 
 mkdir library
@@ -173,9 +218,25 @@ untouched 2 'ORACLE has to name' bash tools/compare.sh 1 1 1
 untouched 2 'ORACLE has to name' env ORACLE=no/such bash tools/compare.sh 1 1 1
 untouched 2 'ASK has to name' env ORACLE=true ASK=no/such bash tools/compare.sh 1 1 1
 untouched 1 'there is none of' env ORACLE=true bash tools/compare.sh 1 1 1
+compare() { env ORACLE=oracle "$@" bash tools/compare.sh 1 1 1; }
+even_blocks() { compare EVEN=1 ASK="$work/bin/even_blocks" "$@"; }
+untouched 2 'EVEN is 1 or not set' compare EVEN=yes
+untouched 2 'the requests are scale and auto, and KINDS is scale|point$' even_blocks KINDS='scale|point'
+untouched 0 '^ *1 escale$' even_blocks
+untouched 0 '^ *1 eauto word$' even_blocks
+untouched 0 'requests auto$' even_blocks KINDS=auto
+untouched 1 'different answers' even_blocks OWN=2
+untouched 0 '^ *1 escale word$' even_blocks OWN=2 KINDS=scale
+untouched 1 'ORACLE searches parity 1' even_blocks LAST=1
+untouched 1 'different answers' compare ASK="$work/bin/even_blocks"
+untouched 0 '^ *1 scale word$' compare ASK="$work/bin/oracle" LAST=1
 untouched 2 'two numbers' bash tools/nearest/compare.sh
 untouched 2 'PROGRAM has to name' bash tools/nearest/compare.sh 1 1
 untouched 2 'no .*nearest_points' env PROGRAM=true bash tools/nearest/compare.sh 1 1
+nearest() { env NEAREST="$work/bin/nearest_points" PROGRAM=even_blocks "$@" bash tools/nearest/compare.sh 1 1; }
+untouched 2 'EVEN is 1 or not set' nearest EVEN=yes
+untouched 0 '^1 answers, all of them the nearest point$' nearest EVEN=1
+untouched 1 '^1 other answers' nearest
 untouched 2 'no edits/nothing' bash tools/edits.sh nothing
 untouched 2 'no program' env UNPAGE=no/such python3 tests/pages.py
 untouched 2 'no program no/such' python3 tests/pages.py --oracle no/such
@@ -183,6 +244,17 @@ untouched 2 'does not know --oracle' python3 tests/pages.py --oracle
 untouched 2 'no program no/such' env ASK=no/such python3 tests/points.py
 untouched 2 'tests/points.py' python3 tests/points.py 0
 untouched 1 'ask *refused=9' python3 tests/points.py 100
+even() { env ASK="$work/bin/even_points" "${@:3}" python3 tests/even.py "$1" "$2"; }
+untouched 2 'no program no/such' env ASK=no/such python3 tests/even.py
+untouched 2 'tests/even.py' python3 tests/even.py 0
+untouched 2 'tests/even.py' python3 tests/even.py 1 0
+untouched 2 'tests/even.py' python3 tests/even.py 1 1 1 1
+untouched 1 'ask *refused=9' python3 tests/even.py 100 100
+untouched 1 '200 requests were put and 0 answered' env ASK="$(type -P true)" python3 tests/even.py 100 100
+untouched 0 '^all 2000 words and 2000 points' even 2000 2000
+untouched 1 'too few points with' even 2000 20
+untouched 1 'ask *refused=13' even 200 200 FIRST=1
+untouched 1 'ask *refused=12' even 200 200 LATE=1
 untouched 2 'points_reading.py' python3 tests/points_reading.py 1 2 3
 try 0 '^refused=11 section=2$' python3 tests/points_reading.py 0 0 0 0 0 0 12 0 0 0 0 0 0 0 0 0 0 0 0 0 0 0 0 0
 untouched 2 'no library no/such' env YULTARVAS_LIB=no/such python3 tests/summary.py

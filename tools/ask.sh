@@ -3,7 +3,8 @@
 # input, one on each line.
 #   bash tools/ask.sh decode W           the point of a word, which is 1 to 16 hex digits
 #   bash tools/ask.sh point C0 .. C23    the word of a point, whose coordinates are decimal
-#   bash tools/ask.sh REQUEST ..         another request: the head of crates/answers/src/lib.rt lists them
+#   bash tools/ask.sh REQUEST ..         another request: the heads of crates/answers/src/lib.rt and
+#                                        crates/even_answers/src/lib.rt list them
 #   bash tools/ask.sh <REQUESTS
 # A request that is refused gives refused= and the number; a point with a section outside its bound gives
 # section= behind it. What is proved is said on standard error; the first time takes minutes, later ones about
@@ -17,6 +18,7 @@ if [ $# -gt 0 ]; then
     case $1 in
     -*) wrong "there is no option $1" ;;
     decode | point | scale | auto | lower | score) ;;
+    edecode | epoint | escale | eauto) ;;
     *) wrong "there is no request $1" ;;
     esac
 fi

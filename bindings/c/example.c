@@ -184,6 +184,94 @@ static void summaries(void) {
            yultarvas_check_summary(t, n, rows, 14) == YULTARVAS_DISAGREES);
 }
 
+/* The even profile: what it accepts it answers as the full coder, and what is odd it refuses with 13. */
+static void even_profile(void) {
+    int32_t point[30], counts[YULTARVAS_BLOCK] = {9}; /* of point, a call uses 24 */
+    uint64_t word = 7;
+    size_t blocks = 7;
+    for (int i = 0; i < 30; i++) point[i] = 9;
+    expect("even_check", yultarvas_even_check(0x3800) == YULTARVAS_OK
+                             && yultarvas_even_check(UINT64_C(1) << 47) == YULTARVAS_OK
+                             && yultarvas_even_check(1) == YULTARVAS_ALL_ODD);
+    expect("even_decode, an odd word",
+           yultarvas_even_decode(1, point, 30) == YULTARVAS_ALL_ODD && point[0] == 9 && point[23] == 9);
+    expect("even_decode, an odd word and a short slice",
+           yultarvas_even_decode(1, point, 23) == YULTARVAS_NO_ROOM && point[0] == 9);
+    expect("even_decode", yultarvas_even_decode(0x3800, point, 30) == YULTARVAS_OK && point[0] == 4
+                              && point[1] == 4 && point[2] == 0 && point[23] == 0 && point[24] == 9);
+    expect("even_encode_point",
+           yultarvas_even_encode_point(point, 30, &word) == YULTARVAS_OK && word == 0x3800);
+    point[1] = 0;
+    expect("even_encode_point, wrong sum",
+           yultarvas_even_encode_point(point, 24, &word) == YULTARVAS_WRONG_SUM && word == 0x3800);
+    point[0] = 12;
+    expect("even_encode_point, outside", yultarvas_even_encode_point(point, 24, &word) == YULTARVAS_OUTSIDE
+                                             && yultarvas_outside(point, 24) == 1 && word == 0x3800);
+    point[0] = 2;
+    expect("even_encode_point, no codeword",
+           yultarvas_even_encode_point(point, 24, &word) == YULTARVAS_NO_CODEWORD && word == 0x3800);
+    point[0] = 1;
+    expect("even_encode_point, both parities",
+           yultarvas_even_encode_point(point, 24, &word) == YULTARVAS_MIXED_PARITY && word == 0x3800);
+    for (int i = 0; i < 24; i++) point[i] = 1;
+    expect("even_encode_point, all odd",
+           yultarvas_even_encode_point(point, 24, &word) == YULTARVAS_ALL_ODD && word == 0x3800);
+    printf("%s\n", yultarvas_why_no_word(YULTARVAS_ALL_ODD, 0));
+    expect("why_no_word, all odd",
+           strstr(yultarvas_why_no_word(YULTARVAS_ALL_ODD, 0), "the even profile has no odd points") != NULL
+               && !yultarvas_no_word(YULTARVAS_ALL_ODD));
+    const uint8_t *odd = (const uint8_t *)text;
+    const uint8_t *even = (const uint8_t *)"format=tetra-page\nnum=128\ncount=1\nword=000000003800\n";
+    size_t n = strlen(text); /* of both pages */
+    expect("even_read_page, an odd word",
+           yultarvas_even_read_page(odd, n, counts, 24, &blocks) == YULTARVAS_ALL_ODD && blocks == 7
+               && counts[0] == 9);
+    expect("even_read_page, an odd word and no room",
+           yultarvas_even_read_page(odd, n, NULL, 0, &blocks) == YULTARVAS_ALL_ODD && blocks == 7);
+    expect("even_read_page, an odd word, cut off",
+           yultarvas_even_read_page(odd, n - 1, counts, 24, &blocks) == YULTARVAS_NO_PAGE && blocks == 7);
+    expect("even_read_page, one place less",
+           yultarvas_even_read_page(even, n, counts, 23, &blocks) == YULTARVAS_NO_ROOM && blocks == 7
+               && counts[0] == 9);
+    expect("even_read_page", yultarvas_even_read_page(even, n, counts, 24, &blocks) == YULTARVAS_OK
+                                 && blocks == 1 && counts[0] == 2 && counts[1] == 2 && counts[23] == 0);
+}
+
+/* Samples in the even profile. The first ones are an odd point, which it does not search; of the last ones
+ * the full coder has another point, although that is even. */
+static void even_samples(void) {
+    double x[YULTARVAS_BLOCK], score = 7.0;
+    int32_t point[30];
+    uint64_t word = 7;
+    for (int i = 0; i < 24; i++) x[i] = i < 23 ? 1.0 : -3.0;
+    point[0] = point[24] = 9;
+    expect("even_encode_at_scale, setting 0",
+           yultarvas_even_encode_at_scale(x, 24, 0.0, 0, &word, point, 30, &score) == YULTARVAS_BAD_SETTING
+               && word == 7 && point[0] == 9 && score == 7.0);
+    expect("even_encode_at_scale, where the full coder's point is odd",
+           yultarvas_encode_at_scale(x, 24, 1.0, 8, &word, point, 30, &score) == YULTARVAS_OK && word == 1
+               && yultarvas_even_encode_at_scale(x, 24, 1.0, 8, &word, point, 30, &score) == YULTARVAS_OK
+               && word == 0 && point[0] == 0 && point[23] == 0 && point[24] == 9 && score == -INFINITY);
+    for (int i = 0; i < 24; i++) x[i] = i == 0 ? 4.1 : i == 1 ? 3.9 : 0.0;
+    expect("even_encode_at_scale, where it is even",
+           yultarvas_even_encode_at_scale(x, 24, 1.0, 8, &word, point, 30, &score) == YULTARVAS_OK
+               && word == 0x3800 && point[0] == 4 && point[1] == 4 && point[2] == 0 && point[24] == 9
+               && bits(score) == 0x4016a09e667f3bcc);
+    for (int i = 0; i < 24; i++) x[i] = 0.5;
+    expect("even_encode, short",
+           yultarvas_even_encode(x, 24, &word, point, 23, &score) == YULTARVAS_NO_ROOM && word == 0x3800);
+    expect("even_encode", yultarvas_even_encode(x, 24, &word, point, 30, &score) == YULTARVAS_OK
+                              && word == 0x407407080e00 && point[0] == 4 && point[23] == 4
+                              && bits(score) == 0x4003988e1409212f);
+    printf("word=%012" PRIx64 " score=%.17g\n", word, score);
+    expect("even_encode_with, setting 0",
+           yultarvas_even_encode_with(x, 24, 0, &word, point, 30, &score) == YULTARVAS_BAD_SETTING
+               && word == 0x407407080e00);
+    word = 7;
+    expect("even_encode_with", yultarvas_even_encode_with(x, 24, 8, &word, point, 30, &score) == YULTARVAS_OK
+                                   && word == 0x407407080e00);
+}
+
 /* (NULL, 0) is an empty slice, for each slice that a call takes. */
 static void nothing(void) {
     const uint8_t *empty = (const uint8_t *)"format=tetra-page\nnum=1\ncount=0\n";
@@ -203,9 +291,21 @@ static void nothing(void) {
            yultarvas_encode_at_scale(NULL, 0, 1.0, 8, &word, NULL, 0, &score) == YULTARVAS_NO_ROOM);
     expect("lower_scale of nothing", yultarvas_lower_scale(NULL, 0, &score, &scale) == YULTARVAS_NO_ROOM);
     expect("t_of of nothing", yultarvas_t_of(NULL, 0, NULL, 0, &score) == YULTARVAS_NO_ROOM);
+    expect("even_decode into nothing", yultarvas_even_decode(1, NULL, 0) == YULTARVAS_NO_ROOM);
+    expect("even_encode_point of nothing", yultarvas_even_encode_point(NULL, 0, &word) == YULTARVAS_NO_ROOM);
+    expect("even_encode of nothing",
+           yultarvas_even_encode(NULL, 0, &word, point, 24, &score) == YULTARVAS_NO_ROOM);
+    expect("even_encode into nothing",
+           yultarvas_even_encode(x, 24, &word, NULL, 0, &score) == YULTARVAS_NO_ROOM);
+    expect("even_encode_with of nothing",
+           yultarvas_even_encode_with(NULL, 0, 8, &word, NULL, 0, &score) == YULTARVAS_NO_ROOM);
+    expect("even_encode_at_scale of nothing",
+           yultarvas_even_encode_at_scale(NULL, 0, 1.0, 8, &word, NULL, 0, &score) == YULTARVAS_NO_ROOM);
     expect("word and score as they were", word == 7 && score == 7.0 && scale == 7.0);
     expect("read_page of nothing",
            yultarvas_read_page(NULL, 0, NULL, 0, &blocks) == YULTARVAS_NO_PAGE && blocks == 7);
+    expect("even_read_page of nothing",
+           yultarvas_even_read_page(NULL, 0, NULL, 0, &blocks) == YULTARVAS_NO_PAGE && blocks == 7);
     expect("parse_page of nothing", yultarvas_parse_page(NULL, 0, &num, NULL, 0, &blocks) == YULTARVAS_NO_PAGE
                                         && blocks == 7 && num == 7);
     expect("summarise of nothing",
@@ -220,6 +320,8 @@ static void nothing(void) {
                && yultarvas_add_word(empty, n, 1, NULL, 0, &blocks) == YULTARVAS_NO_ROOM && blocks == 7);
     expect("an empty page into nothing",
            yultarvas_read_page(empty, n, NULL, 0, &blocks) == YULTARVAS_OK && blocks == 0);
+    expect("an empty page into nothing, in the even profile",
+           yultarvas_even_read_page(empty, n, NULL, 0, &blocks) == YULTARVAS_OK && blocks == 0);
     expect("its words",
            yultarvas_parse_page(empty, n, &num, NULL, 0, &blocks) == YULTARVAS_OK && blocks == 0 && num == 1);
 }
@@ -242,6 +344,8 @@ int main(void) {
     pages();
     written();
     summaries();
+    even_profile();
+    even_samples();
     nothing();
     version();
     return failures != 0;

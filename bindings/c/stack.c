@@ -24,6 +24,9 @@ static size_t count, length;
 static uint8_t text[YULTARVAS_PAGE_TEXT];
 static char shorter[2048];
 static int32_t rows[YULTARVAS_PAGE_SUMMARY], rows_shorter[YULTARVAS_PAGE_SUMMARY];
+static uint64_t even_word;
+static int32_t even_point[YULTARVAS_BLOCK];
+static char even_page[2048];
 
 static uint64_t state = 1;
 static uint64_t random_bits(void) { /* xorshift64 */
@@ -73,10 +76,15 @@ static void draw(int shape) {
     }
     setting = 1 + (uint32_t)(random_bits() % 8);
     word = random_bits();
+    even_word = word & ~UINT64_C(1);
     num = 1 + (uint32_t)(random_bits() % 65535);
     int at = sprintf(page, "format=tetra-page\nnum=%u\ncount=64\n", (unsigned)num);
-    for (int i = 0; i < YULTARVAS_PAGE_BLOCKS; i++)
-        at += sprintf(page + at, "word=%012llx\n", (unsigned long long)(random_bits() >> 16));
+    memcpy(even_page, page, sizeof page);
+    for (int i = 0; i < YULTARVAS_PAGE_BLOCKS; i++) { /* the even page has the same words, but for their p */
+        unsigned long long drawn = random_bits() >> 16;
+        sprintf(even_page + at, "word=%012llx\n", drawn & ~1ull);
+        at += sprintf(page + at, "word=%012llx\n", drawn);
+    }
     memcpy(shorter, page, sizeof page); /* the same page without its last word */
     shorter[at - 18] = 0;
     memcpy(strstr(shorter, "count=64"), "count=63", 8);
@@ -122,10 +130,30 @@ static void add_word(void) {
     must(yultarvas_add_word((uint8_t *)shorter, strlen(shorter), word, rows, YULTARVAS_PAGE_SUMMARY,
                             &blocks));
 }
+static void even_check(void) { must(yultarvas_even_check(even_word)); }
+static void even_decode(void) { must(yultarvas_even_decode(even_word, even_point, YULTARVAS_BLOCK)); }
+static void even_encode_point(void) {
+    must(yultarvas_even_encode_point(even_point, YULTARVAS_BLOCK, &even_word));
+}
+static void even_encode(void) {
+    must(yultarvas_even_encode(x, YULTARVAS_BLOCK, &word, point, YULTARVAS_BLOCK, &score));
+}
+static void even_encode_with(void) {
+    must(yultarvas_even_encode_with(x, YULTARVAS_BLOCK, setting, &word, point, YULTARVAS_BLOCK, &score));
+}
+static void even_encode_at_scale(void) {
+    must(yultarvas_even_encode_at_scale(x, YULTARVAS_BLOCK, scale, setting, &word, point, YULTARVAS_BLOCK,
+                                        &score));
+}
+static void even_read_page(void) {
+    must(yultarvas_even_read_page((uint8_t *)even_page, strlen(even_page), counts, YULTARVAS_PAGE_COUNTS,
+                                  &blocks));
+}
 static void environment(void) { must(yultarvas_environment_now()); }
 
-/* decode leaves the point that encode_point and outside take, lower_scale the scale that encode_at_scale
- * takes, summarise the rows that check_summary takes. */
+/* decode leaves the point that encode_point and outside take, lower_scale the scale that encode_at_scale and
+ * even_encode_at_scale take, summarise the rows that check_summary takes, even_decode the point that
+ * even_encode_point takes. */
 static const struct {
     const char *name;
     void (*call)(void);
@@ -144,6 +172,13 @@ static const struct {
     {"summarise", summarise},
     {"check_summary", check_summary},
     {"add_word", add_word},
+    {"even_check", even_check},
+    {"even_decode", even_decode},
+    {"even_encode_point", even_encode_point},
+    {"even_encode", even_encode},
+    {"even_encode_with", even_encode_with},
+    {"even_encode_at_scale", even_encode_at_scale},
+    {"even_read_page", even_read_page},
     {"environment", environment},
 };
 enum { CALLS = sizeof calls / sizeof calls[0] };
@@ -201,7 +236,7 @@ int main(void) {
         }
     }
     for (int i = 0; i < CALLS; i++) {
-        printf("%-16s %7zu bytes\n", calls[i].name, most[i]);
+        printf("%-20s %7zu bytes\n", calls[i].name, most[i]);
         if (all < most[i]) all = most[i];
     }
     size_t kib = 4;

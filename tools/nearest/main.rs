@@ -1,6 +1,6 @@
 //! Targets near the decision boundary of the Leech lattice, with the nearest lattice point of each, found exactly.
 //!
-//!   nearest_points SEED COUNT REQUESTS POINTS
+//!   nearest_points SEED COUNT REQUESTS POINTS [even]
 //!
 //! writes COUNT requests `scale N S X0 .. X23` (N is the setting of the shrinks, a double the 16 hex digits of its bits) and, line by line,
 //! the point that each must be answered with. Build: rustc -O tools/nearest/main.rs -o target/nearest_points. The script compare.sh beside this
@@ -12,7 +12,13 @@
 //! nearest by going through all 2 x 4,096 classes of one parity and one codeword. Kept are the targets whose nearest point has a word and is
 //! nearer than every other by more than 2^-20 and by at most 2^-18. Nothing here is taken from the Rust or from our code: the code comes from
 //! the twelve columns, ranks by counting, bounds from their cost and cut.
+//!
+//! With `even` the same is done for the lattice points with even coordinates alone: the requests are `escale ..`, y and v are even, and the decoder
+//! goes through the 4,096 classes of parity 0. An odd lattice point may then be nearer than y, and where it has a word a search of both parities does
+//! not answer y. To have many such targets, half of all are moved toward an odd lattice point that is as far from y as from y + v. Counted are the
+//! targets with an odd point that is nearer, and those of them where the nearest odd point has a word.
 use std::io::Write;
+use std::ops::Range;
 
 const UNIT: i128 = 1 << 48; // one, in units
 const MARGIN: i128 = 1 << 76; // 2^-20, in squared units
@@ -128,7 +134,8 @@ fn class(ns: &[Near], p: i64) -> (Vec<i64>, i128, i128) {
     ((0..ns.len()).map(|j| ns[j].k + (path >> (2 * j) & 3) as i64 - 1).collect(), sum, next[p as usize])
 }
 
-fn decode(l: &Leech, t: &Point) -> Found {
+/// the nearest point among those of the parities
+fn decode(l: &Leech, t: &Point, parities: Range<usize>) -> Found {
     // by place and remainder; and the sums of the least over a section, by parity, section and byte
     let nears: Vec<[Near; 4]> = (0..24).map(|j| [0, 1, 2, 3].map(|o| near(t[l.order[j]], o))).collect();
     let under = |p: usize, s: usize, c: usize| -> i128 { (0..8).map(|j| nears[8 * s + j][p + 2 * (c >> j & 1)].least).sum() };
@@ -138,9 +145,10 @@ fn decode(l: &Leech, t: &Point) -> Found {
         tables[768 * p + (w & 255)] + tables[768 * p + 256 + (w >> 8 & 255)] + tables[768 * p + 512 + (w >> 16)]
     };
     let bounds: Vec<i128> = (0..8192).map(bound).collect();
-    let start = (0..8192).min_by_key(|i| bounds[*i]).unwrap();
+    let classes = 4096 * parities.start..4096 * parities.end;
+    let start = classes.clone().min_by_key(|i| bounds[*i]).unwrap();
     let mut found = Found { point: [0; 24], least: i128::MAX / 4, second: i128::MAX / 4 };
-    for i in std::iter::once(start).chain((0..8192).filter(|i| *i != start)) {
+    for i in std::iter::once(start).chain(classes.filter(|i| *i != start)) {
         if bounds[i] >= found.second { continue; }
         let (p, w) = (i / 4096, l.words[i % 4096]);
         let o = |j: usize| p + 2 * (w >> j & 1) as usize;
@@ -158,17 +166,17 @@ fn decode(l: &Leech, t: &Point) -> Found {
 /// the exact squared distance
 fn distance(y: &Point, t: &Point) -> i128 { (0..24).map(|i| { let g = y[i] as i128 * UNIT - t[i] as i128; g * g }).sum() }
 
-/// what was found is a lattice point at that distance, and none of the 196,560 points about it is nearer than the second
-fn sound(l: &Leech, all: &[Vec<Point>; 3], t: &Point, f: &Found, thorough: bool) -> bool {
+/// what was found is a lattice point at that distance, and none of the 196,560 points about it, or of the even ones alone, is nearer than the second
+fn sound(l: &Leech, all: &[Vec<Point>], t: &Point, f: &Found, thorough: bool) -> bool {
     let about = |v: &Point| -> Point { core::array::from_fn(|i| f.point[i] + v[i]) };
     l.contains(&f.point) && distance(&f.point, t) == f.least
         && (!thorough || all.iter().flatten().all(|v| distance(&about(v), t) >= f.second))
 }
 
 // ---- the targets
-/// half of them odd; once in three the whole numbers k are drawn further out, to reach the edges of the bounds
-fn point_with_word(l: &Leech, r: &mut Rng) -> Point {
-    let (p, wide) = (r.below(2) as i64, r.below(3) == 0);
+/// half of them odd, or none; once in three the whole numbers k are drawn further out, to reach the edges of the bounds
+fn point_with_word(l: &Leech, r: &mut Rng, even: bool) -> Point {
+    let (p, wide) = (if even { 0 } else { r.below(2) as i64 }, r.below(3) == 0);
     loop {
         let w = l.words[r.below(4096) as usize];
         let k: Vec<i64> = (0..24)
@@ -199,12 +207,15 @@ fn shortest(l: &Leech) -> [Vec<Point>; 3] {
     all
 }
 
+/// the even ones are the first two kinds
+fn kinds(all: &[Vec<Point>; 3], even: bool) -> &[Vec<Point>] { if even { &all[..2] } else { &all[..] } }
+
 fn square(v: &Point) -> i64 { v.iter().map(|c| c * c).sum() }
 
-/// of squared length 32, each of the three kinds alike, and of 48 once in four
-fn step(all: &[Vec<Point>; 3], r: &mut Rng) -> Point {
+/// of squared length 32, each of the kinds alike, and of 48 once in four
+fn step(all: &[Vec<Point>], r: &mut Rng) -> Point {
     let wanted = if r.below(4) == 0 { 48 } else { 32 };
-    let mut pick = || { let kind = &all[r.below(3) as usize]; kind[r.below(kind.len() as u64) as usize] };
+    let mut pick = || { let kind = &all[r.below(all.len() as u64) as usize]; kind[r.below(kind.len() as u64) as usize] };
     loop {
         let (a, b) = (pick(), pick());
         let v: Point = if wanted == 32 { a } else { core::array::from_fn(|i| a[i] + b[i]) };
@@ -212,11 +223,22 @@ fn step(all: &[Vec<Point>; 3], r: &mut Rng) -> Point {
     }
 }
 
-/// a target, in units, about wanted units nearer to y than to y + v, each coordinate a multiple of grain
-fn target(y: &Point, v: &Point, r: &mut Rng, wanted: i64, grain: i64) -> Point {
+/// a way from the middle of 0 and v toward an odd lattice point u as far from both: u . v is half of v . v, so the way is square to v. At its end, on
+/// u, many even points are equally near; short of it 0 and v are.
+fn toward_odd(threes: &[Point], v: &Point, r: &mut Rng) -> [f64; 24] {
+    let part = 0.9 * r.unit();
+    loop {
+        let u = threes[r.below(threes.len() as u64) as usize];
+        let dot: i64 = (0..24).map(|i| u[i] * v[i]).sum();
+        if 2 * dot == square(v) { return core::array::from_fn(|i| part * (u[i] as f64 - v[i] as f64 / 2.0)); }
+    }
+}
+
+/// a target, in units, about wanted units nearer to y than to y + v, moved the way, each coordinate a multiple of grain
+fn target(y: &Point, v: &Point, way: &[f64; 24], r: &mut Rng, wanted: i64, grain: i64) -> Point {
     let (one, spread) = (UNIT as i64, [0.0, 0.1, 0.3, 0.5, 0.8][r.below(5) as usize]);
     let n = square(v) as f64;
-    let off: Vec<f64> = (0..24).map(|_| spread * (2.0 * r.unit() - 1.0)).collect();
+    let off: Vec<f64> = (0..24).map(|i| way[i] + spread * (2.0 * r.unit() - 1.0)).collect();
     let along: f64 = (0..24).map(|i| v[i] as f64 * off[i]).sum::<f64>() / n;
     let part = |i: usize| (v[i] as f64 * (0.5 - along) + off[i]) * one as f64;
     let mut e: Point = core::array::from_fn(|i| (part(i) / grain as f64).round() as i64 * grain);
@@ -234,20 +256,25 @@ struct Drawn { y: Point, t: Point, scale: usize }
 
 /// a target beside the middle of y and a neighbour, and a scale: 1 in seven of twelve. For 3, 5 and 7 the target has four digits less, so that
 /// the samples are doubles too. Every fourth margin is as little above 2^-20 as can be, the others lie between 2^-20 and 2^-18, every length alike.
-fn draw(l: &Leech, all: &[Vec<Point>; 3], r: &mut Rng) -> Drawn {
-    let (y, v) = (point_with_word(l, r), step(all, r));
+fn draw(l: &Leech, all: &[Vec<Point>; 3], r: &mut Rng, even: bool) -> Drawn {
+    let (y, v) = (point_with_word(l, r, even), step(kinds(all, even), r));
+    let way = if even && r.below(2) == 0 { toward_odd(&all[2], &v, r) } else { [0.0; 24] };
     let scale = if r.below(2) == 0 { 0 } else { r.below(6) as usize };
     let wanted = if r.below(4) == 0 { (1 << 28) + 16 } else { ((1u64 << 28) as f64 * 4f64.powf(r.unit())) as i64 };
-    Drawn { y, t: target(&y, &v, r, wanted, if scale < 3 { 1 } else { 16 }), scale }
+    Drawn { y, t: target(&y, &v, &way, r, wanted, if scale < 3 { 1 } else { 16 }), scale }
 }
 
 #[derive(Default)]
-struct Tally { tried: u64, kept: u64, odd: u64, narrow: u64, close: u64, other: u64, by_setting: [u64; 8], by_scale: [u64; 6] }
+struct Tally {
+    tried: u64, kept: u64, odd: u64, beyond: u64, in_reach: u64, narrow: u64, close: u64, other: u64,
+    by_setting: [u64; 8], by_scale: [u64; 6],
+}
 
 impl Tally {
-    fn show(&self, seed: u64) {
+    fn show(&self, seed: u64, even: bool) {
         println!("seed {seed}: {} targets kept of {} tried, all with margins above 2^-20 and up to 2^-18", self.kept, self.tried);
         println!("nearest point odd {}, even {}; not the point that the target was made for {}", self.odd, self.kept - self.odd, self.other);
+        if even { println!("an odd lattice point is nearer: {}, the nearest of which has a word: {}", self.beyond, self.in_reach); }
         println!("margin within a thousandth of 2^-20: {}; within a tenth: {}", self.narrow, self.close);
         println!("by setting 1 to 8: {:?}; by scale {SCALES:?}: {:?}", self.by_setting, self.by_scale);
     }
@@ -255,33 +282,41 @@ impl Tally {
 
 fn main() -> std::io::Result<()> {
     let args: Vec<String> = std::env::args().collect();
-    if args.len() != 5 { eprintln!("nearest_points SEED COUNT REQUESTS POINTS"); std::process::exit(2); }
+    let even = args.get(5).is_some_and(|word| word == "even");
+    if args.len() != 5 + even as usize { eprintln!("nearest_points SEED COUNT REQUESTS POINTS [even]"); std::process::exit(2); }
     let (seed, count): (u64, u64) = (args[1].parse().expect("a seed"), args[2].parse().expect("a count"));
     let file = |i: usize| std::fs::File::create(&args[i]).map(std::io::BufWriter::new);
     let (mut requests, mut points) = (file(3)?, file(4)?);
     let (l, mut r, mut tally) = (Leech::new(), Rng(seed), Tally::default());
     let all = shortest(&l);
+    let (name, parities) = if even { ("escale", 0..1) } else { ("scale", 0..2) };
     while tally.kept < count {
         tally.tried += 1;
-        let Drawn { y, t, scale } = draw(&l, &all, &mut r);
-        let found = decode(&l, &t);
-        assert!(sound(&l, &all, &t, &found, tally.tried % 1000 == 0));
+        let Drawn { y, t, scale } = draw(&l, &all, &mut r, even);
+        let found = decode(&l, &t, parities.clone());
+        assert!(sound(&l, kinds(&all, even), &t, &found, tally.tried % 1000 == 0));
+        assert!(!even || found.point.iter().all(|c| c % 2 == 0));
         let margin = found.second - found.least;
         if margin <= MARGIN || margin > WIDEST || !l.has_word(&found.point) { continue; }
         let (s, setting) = (SCALES[scale], tally.kept % 8 + 1);
         let x: Vec<f64> = t.iter().map(|c| *c as f64 / UNIT as f64 * s).collect();
         assert!((0..24).all(|i| t[i].abs() < 1 << 52 && (x[i] / s * UNIT as f64) as i64 == t[i]));
         let hex: Vec<String> = x.iter().map(|c| format!("{:016x}", c.to_bits())).collect();
-        writeln!(requests, "scale {setting} {:016x} {}", s.to_bits(), hex.join(" "))?;
+        writeln!(requests, "{name} {setting} {:016x} {}", s.to_bits(), hex.join(" "))?;
         writeln!(points, "{}", found.point.map(|c| c.to_string()).join(","))?;
         tally.kept += 1;
         tally.odd += found.point[0].rem_euclid(2) as u64;
+        if even {
+            let rival = decode(&l, &t, 1..2);
+            tally.beyond += (rival.least < found.least) as u64;
+            tally.in_reach += (rival.least < found.least && l.has_word(&rival.point)) as u64;
+        }
         tally.narrow += (margin <= MARGIN + MARGIN / 1000) as u64;
         tally.close += (margin <= MARGIN + MARGIN / 10) as u64;
         tally.other += (found.point != y) as u64;
         tally.by_setting[setting as usize - 1] += 1;
         tally.by_scale[scale] += 1;
     }
-    tally.show(seed);
+    tally.show(seed, even);
     Ok(())
 }

@@ -2,17 +2,17 @@
 //! every function of which is proved against its contract.
 //!
 //! A block is [`BLOCK`] samples, and has one 48-bit word, which stands for a point of the Leech lattice. A
-//! trace page holds up to [`PAGE_BLOCKS`] words, and a summary kept beside it says how large they are. A call
-//! that is refused answers a [`Refused`], whose [`Refused::number`] is the one that documents and other
-//! languages use.
+//! trace page holds up to [`PAGE_BLOCKS`] words, and a summary kept beside it says how large they are. The
+//! module [`even`] has the calls for a channel that knows even points alone. A call that is refused answers a
+//! [`Refused`], whose [`Refused::number`] is the one that documents and other languages use.
 //!
 //! **Doubles.** The contracts are over IEEE 754 doubles, rounded to nearest with ties to even, subnormal
 //! numbers kept, as a thread starts. A program that calls C code which sets another rounding mode or
 //! flush-to-zero gets other answers with no refusal; [`environment`] tells.
 //!
-//! **Stack.** [`encode`], [`encode_with`], [`encode_at_scale`] and [`write_page`] take up to 121 KB of stack
-//! (120,816 bytes on aarch64; tools/stack.sh measures it, and no theorem bounds it): more than some threads
-//! have. Have [`STACK`] bytes left.
+//! **Stack.** [`encode`], [`encode_with`], [`encode_at_scale`], the same three of [`even`] and [`write_page`]
+//! take up to 121 KB of stack (120,816 bytes on aarch64; tools/stack.sh measures it, and no theorem bounds
+//! it): more than some threads have. Have [`STACK`] bytes left.
 //!
 //! **Memory.** Code and constants of the library take 78 KB on x86-64 (tools/rom.sh measures them).
 //!
@@ -47,6 +47,7 @@
 #![no_std]
 #![warn(missing_docs)]
 
+pub mod even;
 pub mod raw;
 mod refused;
 
@@ -115,8 +116,9 @@ const EMPTY: Code = Code {
     score: 0.0,
 };
 
-// Each pointer below is that of a live reference or slice, with its own length, and what is written is
-// borrowed mutably: this is all that the library asks of its callers, since no contract has a condition.
+// Each pointer below, and in `even`, is that of a live reference or slice, with its own length, and what is
+// written is borrowed mutably: this is all that the library asks of its callers, since no contract has a
+// condition.
 
 /// The point of a word, in natural order. Bits 47 and up are ignored.
 pub fn decode(word: u64) -> [i32; BLOCK] {
@@ -132,10 +134,15 @@ pub fn decode(word: u64) -> [i32; BLOCK] {
 pub fn encode_point(point: &[i32; BLOCK]) -> Result<u64, Refused> {
     let mut word = 0;
     let number = unsafe { raw::yultarvas_encode_point(point.as_ptr(), point.len(), &mut word) };
+    word_or_why(number, word, point)
+}
+
+/// The word where a point's number is 0, and otherwise the refusal. 11 comes with a section, which another
+/// call answers, since one that refuses writes nothing.
+fn word_or_why(number: u32, word: u64, point: &[i32; BLOCK]) -> Result<u64, Refused> {
     if number != 11 {
         return Refused::unless(number, word);
     }
-    // That number comes with a section, which another call answers, since one that refuses writes nothing.
     let section = unsafe { raw::yultarvas_outside(point.as_ptr(), point.len()) };
     Err(Refused::Outside { section })
 }

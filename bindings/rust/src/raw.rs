@@ -113,6 +113,50 @@ extern "C" {
         rows_len: usize,
         blocks: *mut usize,
     ) -> u32;
+    /// Whether the even profile has a word.
+    pub fn yultarvas_even_check(word: u64) -> u32;
+    /// The point of a word, in the even profile.
+    pub fn yultarvas_even_decode(word: u64, point: *mut i32, point_len: usize) -> u32;
+    /// The word of a point, in the even profile.
+    pub fn yultarvas_even_encode_point(point: *const i32, point_len: usize, word: *mut u64) -> u32;
+    /// The code of samples over the even points, at the scale that the samples give.
+    pub fn yultarvas_even_encode(
+        samples: *const f64,
+        samples_len: usize,
+        word: *mut u64,
+        point: *mut i32,
+        point_len: usize,
+        score: *mut f64,
+    ) -> u32;
+    /// The same at a setting of the shrinks.
+    pub fn yultarvas_even_encode_with(
+        samples: *const f64,
+        samples_len: usize,
+        setting: u32,
+        word: *mut u64,
+        point: *mut i32,
+        point_len: usize,
+        score: *mut f64,
+    ) -> u32;
+    /// The code of samples over the even points, at a scale and a setting of the shrinks.
+    pub fn yultarvas_even_encode_at_scale(
+        samples: *const f64,
+        samples_len: usize,
+        scale: f64,
+        setting: u32,
+        word: *mut u64,
+        point: *mut i32,
+        point_len: usize,
+        score: *mut f64,
+    ) -> u32;
+    /// The counts of a page that has no odd word.
+    pub fn yultarvas_even_read_page(
+        text: *const u8,
+        text_len: usize,
+        counts: *mut i32,
+        counts_len: usize,
+        blocks: *mut usize,
+    ) -> u32;
     /// Three sums of doubles, to be called with 1.0 and 2^-1074.
     pub fn yultarvas_environment(one: f64, least: f64) -> u32;
 }

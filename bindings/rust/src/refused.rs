@@ -36,6 +36,8 @@ pub enum Refused {
     /// 12: no word decodes to the point: the sum of its coordinates' quarters, each rounded down, is odd where
     /// they are even, or even where they are odd.
     WrongSum,
+    /// 13: not in the [`even`](crate::even) profile: a word's p is 1, or a point's coordinates are all odd.
+    AllOdd,
     /// 14: the summary and the page disagree.
     Disagrees,
     /// A number that this version of the crate has no name for.
@@ -49,7 +51,8 @@ impl Refused {
     }
 
     /// Whether this says that no word decodes to a point, which [`encode_point`](crate::encode_point) says in
-    /// four ways.
+    /// four ways. [`Refused::AllOdd`] does not: the [`even`](crate::even) profile refuses every point whose
+    /// coordinates are all odd, and such a point may have a word.
     pub const fn no_word(self) -> bool {
         matches!(
             self,
@@ -99,6 +102,10 @@ impl Refused {
                 "the point has no word: the sum of its coordinates' quarters, each rounded down, is odd \
                  where they are even, or even where they are odd; changing one by 4 mends it",
             ),
+            Refused::AllOdd => (
+                13,
+                "the even profile has no odd points: a word's p is 1, or a point's coordinates are all odd",
+            ),
             Refused::Disagrees => (14, "the summary and the page disagree"),
             Refused::Other(number) => (
                 number,
@@ -107,7 +114,7 @@ impl Refused {
         }
     }
 
-    /// 11 is not here: it comes with a section, and `encode_point` makes the refusal.
+    /// 11 is not here: it comes with a section, and `word_or_why` makes the refusal.
     const fn from_number(number: u32) -> Refused {
         match number {
             1 => Refused::NotFinite,
@@ -120,6 +127,7 @@ impl Refused {
             9 => Refused::NoPage,
             10 => Refused::NoCodeword,
             12 => Refused::WrongSum,
+            13 => Refused::AllOdd,
             14 => Refused::Disagrees,
             other => Refused::Other(other),
         }

@@ -1,11 +1,12 @@
 //! The order of refusals; slices that are too short or longer than a block, and what a call leaves in what it
 //! is lent.
 use yultarvas::{
-    add_word, check_summary, decode, encode, encode_at_scale, encode_point, encode_with, lower_scale,
+    add_word, check_summary, decode, encode, encode_at_scale, encode_point, encode_with, even, lower_scale,
     parse_page, raw, read_page, summarise, t_of, Refused,
 };
 
 const PAGE: &[u8] = b"format=tetra-page\nnum=128\ncount=1\nword=000000000001\n";
+const EVEN: &[u8] = b"format=tetra-page\nnum=128\ncount=1\nword=000000003800\n";
 
 #[test]
 fn order_of_refusals() {
@@ -14,19 +15,35 @@ fn order_of_refusals() {
     assert_eq!(encode_at_scale(&x, 0.0, 0), Err(Refused::BadSetting));
     assert_eq!(encode_with(&x, 0), Err(Refused::BadSetting));
     assert_eq!(encode_at_scale(&x, 0.0, 8), Err(Refused::BadScale));
+    assert_eq!(even::encode_at_scale(&x, 0.0, 0), Err(Refused::BadSetting));
+    assert_eq!(even::encode_with(&x, 0), Err(Refused::BadSetting));
+    assert_eq!(even::encode_at_scale(&x, 0.0, 8), Err(Refused::BadScale));
     x[2] = 1e291;
     assert_eq!(encode(&x), Err(Refused::NotFinite));
     assert_eq!(encode_with(&x, 8), Err(Refused::NotFinite));
+    assert_eq!(even::encode(&x), Err(Refused::NotFinite));
+    assert_eq!(even::encode_with(&x, 8), Err(Refused::NotFinite));
+    assert_eq!(even::encode_at_scale(&x, 1.0, 8), Err(Refused::NotFinite));
     assert_eq!(lower_scale(&x), Err(Refused::NotFinite));
     assert_eq!(t_of(&x, &[0; 24]), Err(Refused::NotFinite));
     x[3] = 0.0;
     assert_eq!(encode(&x), Err(Refused::TooLarge));
+    assert_eq!(even::encode(&x), Err(Refused::TooLarge));
+    assert_eq!(even::encode_with(&x, 8), Err(Refused::TooLarge));
+    assert_eq!(even::encode_at_scale(&x, 1.0, 8), Err(Refused::TooLarge));
     assert_eq!(lower_scale(&x), Err(Refused::TooLarge));
     assert_eq!(t_of(&x, &[0; 24]), Err(Refused::TooLarge));
     assert_eq!(
         encode_at_scale(&[1000001.0; 24], 1.0, 8),
         Err(Refused::FarQuotient)
     );
+    assert_eq!(
+        even::encode_at_scale(&[1000001.0; 24], 1.0, 8),
+        Err(Refused::FarQuotient)
+    );
+    assert_eq!(even::read_page(&PAGE[1..], &mut []), Err(Refused::NoPage));
+    assert_eq!(even::read_page(PAGE, &mut []), Err(Refused::AllOdd));
+    assert_eq!(even::read_page(EVEN, &mut [7; 23]), Err(Refused::NoRoom));
     assert_eq!(read_page(PAGE, &mut [7; 23]), Err(Refused::NoRoom));
     assert_eq!(read_page(b"", &mut []), Err(Refused::NoPage));
     assert_eq!(parse_page(b""), Err(Refused::NoPage));
@@ -74,6 +91,35 @@ fn why_no_word() {
     assert!(!Refused::NoRoom.no_word());
 }
 
+// In the even profile the first that fits of 5, 13, 10, 11 with the lowest section, 12.
+#[test]
+fn why_no_even_word() {
+    let outside = |section| Err(Refused::Outside { section });
+    assert_eq!(even::encode_point(&point(&[(4, 0), (4, 1)])), Ok(0x3800));
+    assert_eq!(
+        even::encode_point(&point(&[(1, 0), (i32::MIN, 1)])),
+        Err(Refused::MixedParity)
+    );
+    let mut odd = decode(1);
+    assert_eq!(even::encode_point(&odd), Err(Refused::AllOdd)); // it has a word
+    assert_eq!(even::encode_point(&[1; 24]), Err(Refused::AllOdd)); // the sum is wrong
+    odd[5] += 4 * 1000; // outside
+    assert_eq!(even::encode_point(&odd), Err(Refused::AllOdd));
+    odd[5] += 2; // no codeword
+    assert_eq!(even::encode_point(&odd), Err(Refused::AllOdd));
+    odd[23] += 1;
+    assert_eq!(even::encode_point(&odd), Err(Refused::MixedParity));
+    assert_eq!(
+        even::encode_point(&point(&[(2, 0), (100, 1)])),
+        Err(Refused::NoCodeword)
+    );
+    assert_eq!(even::encode_point(&point(&[(12, 0)])), outside(1));
+    assert_eq!(even::encode_point(&point(&[(12, 6), (12, 5)])), outside(2));
+    assert_eq!(even::encode_point(&point(&[(4, 6), (12, 5)])), outside(3));
+    assert_eq!(even::encode_point(&point(&[(4, 0)])), Err(Refused::WrongSum));
+    assert!(!Refused::AllOdd.no_word());
+}
+
 // The header has the crate's sentences, each in pieces that the compiler joins.
 #[test]
 fn sentences_of_c() {
@@ -96,6 +142,7 @@ fn sentences_of_c() {
         Refused::Outside { section: 2 },
         Refused::Outside { section: 3 },
         Refused::WrongSum,
+        Refused::AllOdd,
     ];
     for refused in reasons {
         let said = refused.to_string();
@@ -119,7 +166,7 @@ fn numbers() {
         (11, Refused::Outside { section: 1 }),
         (11, Refused::Outside { section: 3 }),
         (12, Refused::WrongSum),
-        (13, Refused::Other(13)),
+        (13, Refused::AllOdd),
         (14, Refused::Disagrees),
         (16, Refused::Other(16)),
     ];
@@ -134,6 +181,11 @@ fn numbers() {
         Refused::Outside { section: 2 }.to_string(),
         "the point has no word: section 2 (coordinates 6, 11, 13, 14, 16, 17, 18, 19) is outside its bound; it \
          needs smaller values (refused with 11)"
+    );
+    assert_eq!(
+        Refused::AllOdd.to_string(),
+        "the even profile has no odd points: a word's p is 1, or a point's coordinates are all odd \
+         (refused with 13)"
     );
     assert_eq!(
         Refused::Disagrees.to_string(),
@@ -152,8 +204,11 @@ fn known_answers() {
     let s = lower_scale(&x).unwrap();
     assert_eq!(s.largest, 4.1);
     assert!(0.0 < s.scale && s.scale < s.largest);
+    assert_eq!(even::encode_at_scale(&x, 1.0, 8), Ok(c));
+    assert_eq!(even::encode(&x), even::encode_with(&x, 8));
     let zero = encode(&[0.0; 24]).unwrap();
     assert_eq!((zero.word, zero.score), (0, f64::NEG_INFINITY));
+    assert_eq!(even::encode(&[0.0; 24]), Ok(zero));
 }
 
 // Of a longer slice the first 24 places are meant.
@@ -181,6 +236,40 @@ fn longer_slices() {
     assert_eq!(read_page(PAGE, &mut counts), Ok(1));
     assert_eq!((counts[0], counts[23]), (0, -2));
     assert_eq!(counts[24..], [9; 6]);
+    assert_eq!(even::read_page(EVEN, &mut counts), Ok(1));
+    assert_eq!((counts[0], counts[1], counts[23]), (2, 2, 0));
+    assert_eq!(counts[24..], [9; 6]);
+    let mut score = 0.0;
+    let mut y = [9; 30];
+    unsafe {
+        assert_eq!(raw::yultarvas_even_decode(0x3800, y.as_mut_ptr(), y.len()), 0);
+        assert_eq!(y[..24], decode(0x3800));
+        assert_eq!(
+            raw::yultarvas_even_encode_point(y.as_ptr(), y.len(), &mut word),
+            0
+        );
+        assert_eq!(word, 0x3800);
+        y[..24].fill(9);
+        let (samples, n, at) = (x.as_ptr(), x.len(), y.as_mut_ptr());
+        assert_eq!(
+            raw::yultarvas_even_encode_at_scale(samples, n, 1.0, 8, &mut word, at, 30, &mut score),
+            0
+        );
+        assert_eq!((word, &y[..24]), (0x3800, &decode(0x3800)[..]));
+        let code = even::encode(x.first_chunk().unwrap()).unwrap();
+        assert_eq!(
+            raw::yultarvas_even_encode(samples, n, &mut word, at, 30, &mut score),
+            0
+        );
+        assert_eq!((word, &y[..24], score), (code.word, &code.point[..], code.score));
+        (word, score) = (0, 0.0);
+        assert_eq!(
+            raw::yultarvas_even_encode_with(samples, n, 9, &mut word, at, 30, &mut score),
+            0
+        );
+        assert_eq!((word, &y[..24], score), (code.word, &code.point[..], code.score));
+    }
+    assert_eq!(y[24..], [9; 6]);
     let (mut num, mut words, mut count) = (0, [9; 3], 0);
     let got = unsafe {
         raw::yultarvas_parse_page(
@@ -201,7 +290,7 @@ fn longer_slices() {
     assert_eq!(rows, [32, 1, -3, 1, 32, 1, -3, 1, 0, 0, 0, 0, 9, 9]);
 }
 
-// A refused call leaves every cell as it was. 8 stands before every other number, but for a page's 9.
+// A refused call leaves every cell as it was. 8 stands before every other number, but for a page's 9 and 13.
 #[test]
 fn untouched() {
     let (mut word, mut y, mut score, mut count, mut num, mut words) = (77, [9; 24], 5.5, 66, 55, [44; 2]);
@@ -249,6 +338,64 @@ fn untouched() {
         );
         assert_eq!(
             raw::yultarvas_read_page(PAGE.as_ptr(), PAGE.len(), at, 23, &mut count),
+            8
+        );
+        assert_eq!(raw::yultarvas_even_decode(1, at, 23), 8);
+        assert_eq!(raw::yultarvas_even_decode(1, at, 24), 13);
+        assert_eq!(
+            raw::yultarvas_even_encode_point([1; 23].as_ptr(), 23, &mut word),
+            8
+        );
+        assert_eq!(
+            raw::yultarvas_even_encode_point([1; 24].as_ptr(), 24, &mut word),
+            13
+        );
+        assert_eq!(
+            raw::yultarvas_even_encode_point([12; 24].as_ptr(), 24, &mut word),
+            11
+        );
+        assert_eq!(
+            raw::yultarvas_even_encode_at_scale(x, 24, 1.0, 8, &mut word, at, 24, &mut score),
+            1
+        );
+        assert_eq!(
+            raw::yultarvas_even_encode_at_scale(x, 24, 0.0, 0, &mut word, at, 23, &mut score),
+            8
+        );
+        assert_eq!(
+            raw::yultarvas_even_encode_at_scale(x, 23, 0.0, 0, &mut word, at, 24, &mut score),
+            8
+        );
+        assert_eq!(
+            raw::yultarvas_even_encode_with(x, 24, 0, &mut word, at, 24, &mut score),
+            7
+        );
+        assert_eq!(
+            raw::yultarvas_even_encode_with(x, 23, 0, &mut word, at, 24, &mut score),
+            8
+        );
+        assert_eq!(
+            raw::yultarvas_even_encode(x, 24, &mut word, at, 24, &mut score),
+            1
+        );
+        assert_eq!(
+            raw::yultarvas_even_encode(x, 24, &mut word, at, 23, &mut score),
+            8
+        );
+        assert_eq!(
+            raw::yultarvas_even_read_page(PAGE.as_ptr(), PAGE.len() - 1, at, 24, &mut count),
+            9
+        );
+        assert_eq!(
+            raw::yultarvas_even_read_page(PAGE.as_ptr(), PAGE.len(), at, 24, &mut count),
+            13
+        );
+        assert_eq!(
+            raw::yultarvas_even_read_page(PAGE.as_ptr(), PAGE.len(), at, 23, &mut count),
+            13
+        );
+        assert_eq!(
+            raw::yultarvas_even_read_page(EVEN.as_ptr(), EVEN.len(), at, 23, &mut count),
             8
         );
         let w = words.as_mut_ptr();

@@ -1,7 +1,7 @@
 //! The requests and answers that the gate runs the programs `ask` and `page_runs` on, put to the library.
 use std::fs;
 use yultarvas::{
-    decode, encode_at_scale, encode_point, encode_with, lower_scale, parse_page, read_page, t_of, Code,
+    decode, encode_at_scale, encode_point, encode_with, even, lower_scale, parse_page, read_page, t_of, Code,
     Refused, PAGE_COUNTS,
 };
 
@@ -10,7 +10,7 @@ fn file(path: &str) -> String {
     fs::read_to_string(&full).unwrap_or_else(|e| panic!("{full}: {e}"))
 }
 
-// ---- request lines, as crates/answers/src/lib.rt has them. `None` where a line is no request; one of 1,024 bytes is none.
+// ---- request lines, as crates/answers/src/lib.rt and crates/even_answers/src/lib.rt have them. `None` where a line is no request; one of 1,024 bytes is none.
 
 fn digits(s: &str) -> Option<u64> {
     if s.bytes().all(|b| b.is_ascii_digit()) {
@@ -68,6 +68,10 @@ fn bits(t: f64) -> u64 {
     }
 }
 
+fn word(w: Result<u64, Refused>) -> String {
+    w.map_or_else(refused, |w| format!("word={w:012x}"))
+}
+
 fn code(c: Result<Code, Refused>) -> String {
     c.map_or_else(refused, |c| {
         format!(
@@ -93,16 +97,20 @@ fn answer(line: &str) -> Option<String> {
     let rest = &words[1..];
     match (words[0], rest.len()) {
         ("decode", 1) => hex(rest[0]).map(|w| format!("point={}", listed(&decode(w)))),
-        ("point", 24) => {
-            point(rest).map(|y| encode_point(&y).map_or_else(refused, |w| format!("word={w:012x}")))
+        ("edecode", 1) => {
+            hex(rest[0]).map(|w| even::decode(w).map_or_else(refused, |y| format!("point={}", listed(&y))))
         }
-        ("scale", 26) => {
+        ("point", 24) => point(rest).map(|y| word(encode_point(&y))),
+        ("epoint", 24) => point(rest).map(|y| word(even::encode_point(&y))),
+        (name @ ("scale" | "escale"), 26) => {
             let (n, s, x) = (digits(rest[0])?, hex(rest[1])?, samples(&rest[2..])?);
-            Some(code(encode_at_scale(&x, f64::from_bits(s), setting(n))))
+            let call = if name == "scale" { encode_at_scale } else { even::encode_at_scale };
+            Some(code(call(&x, f64::from_bits(s), setting(n))))
         }
-        ("auto", 25) => {
+        (name @ ("auto" | "eauto"), 25) => {
             let (n, x) = (digits(rest[0])?, samples(&rest[1..])?);
-            Some(code(encode_with(&x, setting(n))))
+            let call = if name == "auto" { encode_with } else { even::encode_with };
+            Some(code(call(&x, setting(n))))
         }
         ("lower", 24) => {
             let scales = lower_scale(&samples(rest)?);
@@ -134,7 +142,7 @@ fn requests() {
     assert!(counts[0] > 1500);
 }
 
-// ---- pages: for each text what `read` answers with 24 places, and then its blocks or its refusal
+// ---- pages: for each text what `read` answers with 24 places, what it answers in the even profile, and then its blocks or its refusal
 
 fn blocks(text: &str) -> String {
     let mut counts = [0; PAGE_COUNTS];
@@ -146,16 +154,22 @@ fn blocks(text: &str) -> String {
     }
 }
 
+fn read(answer: Result<usize, Refused>) -> String {
+    let (number, count) = match answer {
+        Ok(n) => (0, n),
+        Err(r) => (r.number(), 0),
+    };
+    format!("number={number} count={count}\n")
+}
+
 #[test]
 fn pages() {
     let texts = file("page_runs/stdin");
     let mut got = String::new();
     for text in texts.split('%') {
-        let (number, count) = match read_page(text.as_bytes(), &mut [0; 24]) {
-            Ok(n) => (0, n),
-            Err(r) => (r.number(), 0),
-        };
-        got += &format!("number={number} count={count}\n{}", blocks(text));
+        got += &read(read_page(text.as_bytes(), &mut [0; 24]));
+        got += &format!("even {}", read(even::read_page(text.as_bytes(), &mut [0; 24])));
+        got += &blocks(text);
     }
     assert_eq!(got, file("page_runs/stdout"));
 }

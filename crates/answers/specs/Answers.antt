@@ -17,7 +17,8 @@ use Rattle.score.specs.Score.{scored}
 use Rattle.score.specs.Scale.{scales}
 use Rattle.score.specs.declared.Scored.{Scored}
 use Rattle.score.specs.declared.Scales.{Scales}
-use Rattle.encoder.specs.Encode.{encodeAtScale, encodeWith}
+use Rattle.search.specs.Parity.{bothParities}
+use Rattle.encoder.specs.Encode.{encodeAtOver, encodeOver}
 use Rattle.encoder.specs.declared.Code.{Code}
 use Rattle.request.specs.Words.{afterName, hexAfter, decimalAfter, doubleAfter, onNumber}
 use Rattle.request.specs.Rows.{samplesAfter, pointAfter, onDouble}
@@ -79,17 +80,24 @@ pointAnswer s at = onPoint s at (λ y. encodedLine (encodeOf y))
 abbrev pub settingOf : ℕ → ℕ
 settingOf n = cond (ltb n 8) n 8
 
--- scale N S X0 .. X23
-unfoldable pub scaleAnswer : List ℕ → ℕ → List ℕ
-scaleAnswer s at =
+-- scale N S X0 .. X23: the code where the parities ps are searched,
+unfoldable pub scaleOver : List ℕ → List ℕ → ℕ → List ℕ
+scaleOver ps s at =
     onNumber (decimalAfter s at) noRequest (λ n after.
     onDouble (doubleAfter s after) noRequest (λ by next.
-    onSamples s next (λ x. codeLine (encodeAtScale x by (settingOf n)))))
+    onSamples s next (λ x. codeLine (encodeAtOver ps x by (settingOf n)))))
 
--- auto N X0 .. X23
-unfoldable pub autoAnswer : List ℕ → ℕ → List ℕ
-autoAnswer s at =
-    onNumber (decimalAfter s at) noRequest (λ n next. onSamples s next (λ x. codeLine (encodeWith x (settingOf n))))
+-- and over both, the full coder's
+abbrev pub scaleAnswer : List ℕ → ℕ → List ℕ
+scaleAnswer = scaleOver bothParities
+
+-- auto N X0 .. X23, likewise
+unfoldable pub autoOver : List ℕ → List ℕ → ℕ → List ℕ
+autoOver ps s at =
+    onNumber (decimalAfter s at) noRequest (λ n next. onSamples s next (λ x. codeLine (encodeOver ps x (settingOf n))))
+
+abbrev pub autoAnswer : List ℕ → ℕ → List ℕ
+autoAnswer = autoOver bothParities
 
 -- lower X0 .. X23
 unfoldable pub lowerAnswer : List ℕ → ℕ → List ℕ

@@ -10,6 +10,9 @@
 // A double is given by 1 to 16 hex digits of its bits and answered by 16, a zero with its sign cleared.
 //
 // The words of a line stand one space apart. A line that is no request is answered by refused=9.
+//
+// Crate even_answers adds the requests of the even profile and answers them by the same lines, so `refused`, `point_line` and `word_line` are
+// public. Its requests of samples are `scale` and `auto` over fewer points: so these are public too, and are told whether odd points are searched.
 use encoder::Code;
 use request::Double;
 use request::Number;
@@ -31,8 +34,9 @@ use text::put_list;
 ghost use mathlib.Core.Path.{_≡_};
 ghost use Prim.Native.Nat.{_≤_};
 ghost use Rattle.text.specs.Text.{refusedText};
+ghost use Rattle.search.specs.Parity.{paritiesOf};
 ghost use Rattle.answers.specs.Answers.{noRequest, pointLine, refusedPoint, encodedLine, codeLine, scalesLine, scoreLine};
-ghost use Rattle.answers.specs.Answers.{decodeAnswer, pointAnswer, settingOf, scaleAnswer, autoAnswer, lowerAnswer, scoreAnswer};
+ghost use Rattle.answers.specs.Answers.{decodeAnswer, pointAnswer, settingOf, scaleOver, autoOver, lowerAnswer, scoreAnswer};
 ghost use Rattle.answers.specs.Answers.{ofSamples, answerOf, inLine};
 
 // A line of at most 336 bytes: how many there are, its LF included, and the bytes, with zeros behind them.
@@ -43,7 +47,7 @@ pub struct Reply {
 
 // ---- lines
 
-fn refused(number: u32) -> Reply
+pub fn refused(number: u32) -> Reply
     ensures { λ r. ⌜ (r ≡ inLine (refusedText number)) × (r .length ≤ 336) ⌝ }
 {
     let mut bytes = [0u8; 336];
@@ -58,7 +62,7 @@ pub fn no_request() -> Reply
     refused(refusal::NO_PAGE)
 }
 
-fn point_line(y: [i32; 24]) -> Reply
+pub fn point_line(y: [i32; 24]) -> Reply
     ensures { λ r. ⌜ (r ≡ inLine (pointLine y)) × (r .length ≤ 336) ⌝ }
 {
     let mut bytes = [0u8; 336];
@@ -82,7 +86,7 @@ fn refused_point(number: u32, section: u32) -> Reply
     Reply { length, bytes }
 }
 
-fn word_line(e: Encoded) -> Reply
+pub fn word_line(e: Encoded) -> Reply
     ensures { λ r. ⌜ (r ≡ inLine (encodedLine e)) × (r .length ≤ 336) ⌝ }
 {
     if e.number != 0 {
@@ -175,9 +179,9 @@ fn setting(n: u64) -> u32
     if n < 8 { n as u32 } else { 8 }
 }
 
-// The code at a scale.
-fn scale(s: &[u8], at: usize) -> Reply
-    ensures { λ r. ⌜ (r ≡ inLine (scaleAnswer (now (s .entry)) at)) × (r .length ≤ 336) ⌝ }
+// The code at a scale. Here and below, `odd` says whether odd points are searched too.
+pub fn scale(s: &[u8], at: usize, odd: bool) -> Reply
+    ensures { λ r. ⌜ (r ≡ inLine (scaleOver (paritiesOf odd) (now (s .entry)) at)) × (r .length ≤ 336) ⌝ }
 {
     let Number::Read(n, after) = read_decimal(s, at) else {
         return no_request();
@@ -188,14 +192,14 @@ fn scale(s: &[u8], at: usize) -> Reply
     let p = read_samples(s, next);
     if p.good & (p.next == s.len()) {
         let x = p.x;
-        return code_line(encoder::encode_at_scale(x, by, setting(n)));
+        return code_line(encoder::encode_at_scale_over(x, by, setting(n), odd));
     }
     no_request()
 }
 
 // The code at the scale that the samples give.
-fn auto(s: &[u8], at: usize) -> Reply
-    ensures { λ r. ⌜ (r ≡ inLine (autoAnswer (now (s .entry)) at)) × (r .length ≤ 336) ⌝ }
+pub fn auto(s: &[u8], at: usize, odd: bool) -> Reply
+    ensures { λ r. ⌜ (r ≡ inLine (autoOver (paritiesOf odd) (now (s .entry)) at)) × (r .length ≤ 336) ⌝ }
 {
     let Number::Read(n, next) = read_decimal(s, at) else {
         return no_request();
@@ -203,7 +207,7 @@ fn auto(s: &[u8], at: usize) -> Reply
     let p = read_samples(s, next);
     if p.good & (p.next == s.len()) {
         let x = p.x;
-        return code_line(encoder::encode_with(x, setting(n)));
+        return code_line(encoder::encode_with_over(x, setting(n), odd));
     }
     no_request()
 }
@@ -244,7 +248,7 @@ fn of_samples(s: &[u8]) -> Reply
 {
     let at = after_name(s, b"auto");
     if 0 < at {
-        return auto(s, at);
+        return auto(s, at, true);
     }
     let at = after_name(s, b"lower");
     if 0 < at {
@@ -271,7 +275,7 @@ pub fn answer(line: &[u8]) -> Reply
     }
     let at = after_name(line, b"scale");
     if 0 < at {
-        return scale(line, at);
+        return scale(line, at, true);
     }
     of_samples(line)
 }

@@ -1,5 +1,5 @@
-// Answers each request line of standard input with one line on standard output: crate answers says how, at the
-// head of its src/lib.rt.
+// Answers each request line of standard input with one line on standard output: crates answers and even_answers
+// say how, at the heads of their src/lib.rt.
 //
 // A line's end is an LF, which the last line may lack. A line of 1,024 bytes or more is no request: it is answered by
 // refused=9.
@@ -86,7 +86,7 @@ fn put_answer(a: Reply, out: &mut [u8], to: usize) -> usize
 // Answers the line of which n bytes are held. Where they fill the buffer the line was too long.
 fn end_line(line: &[u8], n: usize, out: &mut [u8], to: usize) -> usize {
     if n < line.len() {
-        return put_answer(answers::answer(&line[0..n]), out, to);
+        return put_answer(even_answers::answer(&line[0..n]), out, to);
     }
     put_answer(answers::no_request(), out, to)
 }

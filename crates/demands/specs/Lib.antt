@@ -3,5 +3,7 @@ pub mod Promised
 pub mod Codes
 pub mod Scales
 pub mod Demand3
+-- the full coder and the even profile
+pub mod Agrees
 -- their proof
 pub mod Laws

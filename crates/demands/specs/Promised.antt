@@ -6,9 +6,14 @@ use lib.IntN.{ℤ}
 use lib.Ieee.{Float}
 use Rattle.tetra.specs.Tetra.{pointOf}
 use Rattle.tetra.specs.Encode.{acceptedWith, encodeOf}
+use Rattle.tetra.specs.Why.{OfParity}
 use Rattle.score.specs.Scale.{secondScale}
 use Rattle.encoder.specs.declared.Code.{Code}
 use Rattle.encoder.specs.Encode.{numberAt, encodeAtOver, higher, encodeOver}
+
+-- all 24 coordinates are even: a point of the even profile
+abbrev pub Even : List ℤ → Type 0
+Even y = OfParity y 0
 
 -- demand 2: number 0, a word below 2 ^ 47 that decodes to the point, and a point that encodes to the word
 pub record Coded (c : Code) : Type 0 where

@@ -9,10 +9,10 @@ ghost use lib.Ieee.{nan};
 ghost use Rattle.laws.specs.Words.{tab};
 ghost use Rattle.rank.specs.Coord.{valOf};
 ghost use Rattle.search.specs.Entries.{sectionAt};
-ghost use Rattle.search.specs.Parity.{bothParities};
+ghost use Rattle.search.specs.Parity.{paritiesOf};
 ghost use Rattle.search.specs.Block.{trioOf, winnerAt, pointFrom, winnerFor};
-ghost use Rattle.encoder.specs.Encode.{zeroCode, codeOf, codeFor, encodeAtScale};
-ghost use Rattle.encoder.specs.Encode.{higher, twoScales, scaledBack, codeAt, encodeWith, encodeSamples};
+ghost use Rattle.encoder.specs.Encode.{zeroCode, codeOf, codeFor, encodeAtOver, encodeAtScale};
+ghost use Rattle.encoder.specs.Encode.{higher, twoScales, scaledBack, codeAt, encodeOver, encodeWith, encodeSamples};
 use score::Choice;
 use search::Winner;
 
@@ -135,27 +135,27 @@ fn code_of(samples: [f64; 24], w: Winner) -> Code
     }
 }
 
-// The winner at a target of 24 numbers.
-fn winner_for(t: [f64; 24], setting: u32) -> Winner
-    ensures { λ r. ⌜ r ≡ winnerFor bothParities setting t ⌝ }
+// The winner at a target of 24 numbers. Here and below, `odd` says whether odd points are searched too.
+fn winner_for(t: [f64; 24], setting: u32, odd: bool) -> Winner
+    ensures { λ r. ⌜ r ≡ winnerFor (paritiesOf odd) setting t ⌝ }
 {
     let u = trio(t);
-    parity::search(section(u, 0), section(u, 8), section(u, 16), setting)
+    parity::search(section(u, 0), section(u, 8), section(u, 16), setting, odd)
 }
 
 // The code at a scale, with no refusal.
-fn code_for(samples: [f64; 24], scale: f64, setting: u32) -> Code
-    ensures { λ r. ⌜ r ≡ codeFor bothParities samples scale setting ⌝ }
+fn code_for(samples: [f64; 24], scale: f64, setting: u32, odd: bool) -> Code
+    ensures { λ r. ⌜ r ≡ codeFor (paritiesOf odd) samples scale setting ⌝ }
 {
     code_of(
         samples,
-        winner_for(float::quotients(samples, scale), setting),
+        winner_for(float::quotients(samples, scale), setting, odd),
     )
 }
 
-// The code of samples at a scale. Refused with 7 at the setting 0, then with 3, 1, 2, 4.
-pub fn encode_at_scale(samples: [f64; 24], scale: f64, setting: u32) -> Code
-    ensures { λ r. ⌜ r ≡ encodeAtScale samples scale setting ⌝ }
+// The code of samples at a scale: the even profile (crate even) searches no odd points. Refused with 7 at the setting 0, then with 3, 1, 2, 4.
+pub fn encode_at_scale_over(samples: [f64; 24], scale: f64, setting: u32, odd: bool) -> Code
+    ensures { λ r. ⌜ r ≡ encodeAtOver (paritiesOf odd) samples scale setting ⌝ }
 {
     if setting == 0 {
         return zero_code(refusal::OUT_OF_RANGE, 0.0);
@@ -164,7 +164,14 @@ pub fn encode_at_scale(samples: [f64; 24], scale: f64, setting: u32) -> Code
     if n != 0 {
         return zero_code(n, 0.0);
     }
-    code_for(samples, scale, setting)
+    code_for(samples, scale, setting, odd)
+}
+
+// The full coder's.
+pub fn encode_at_scale(samples: [f64; 24], scale: f64, setting: u32) -> Code
+    ensures { λ r. ⌜ r ≡ encodeAtScale samples scale setting ⌝ }
+{
+    encode_at_scale_over(samples, scale, setting, true)
 }
 
 // The first unless the second scores higher.
@@ -175,11 +182,11 @@ fn higher(a: Code, b: Code) -> Code
 }
 
 // At a scale and at 1.14 times it.
-fn two_scales(samples: [f64; 24], scale: f64, setting: u32) -> Code
-    ensures { λ r. ⌜ r ≡ twoScales bothParities samples scale setting ⌝ }
+fn two_scales(samples: [f64; 24], scale: f64, setting: u32, odd: bool) -> Code
+    ensures { λ r. ⌜ r ≡ twoScales (paritiesOf odd) samples scale setting ⌝ }
 {
-    let a = code_for(samples, scale, setting);
-    let b = code_for(samples, score::second_scale(scale), setting);
+    let a = code_for(samples, scale, setting, odd);
+    let b = code_for(samples, score::second_scale(scale), setting, odd);
     higher(a, b)
 }
 
@@ -197,22 +204,23 @@ fn scaled_back(m: f64, c: Code) -> Code
 }
 
 // At a choice of scale.
-fn code_at(choice: Choice, samples: [f64; 24], setting: u32) -> Code
-    ensures { λ r. ⌜ r ≡ codeAt bothParities choice samples setting ⌝ }
+fn code_at(choice: Choice, samples: [f64; 24], setting: u32, odd: bool) -> Code
+    ensures { λ r. ⌜ r ≡ codeAt (paritiesOf odd) choice samples setting ⌝ }
 {
     match choice {
         Choice::Zero => zero_code(0, -1.0 / 0.0),
-        Choice::Scale(s) => two_scales(samples, s, setting),
+        Choice::Scale(s) => two_scales(samples, s, setting, odd),
         Choice::Divide { magnitude, scale } => scaled_back(
             magnitude,
-            two_scales(float::quotients(samples, magnitude), scale, setting),
+            two_scales(float::quotients(samples, magnitude), scale, setting, odd),
         ),
     }
 }
 
-// The code of samples at the scale that they give, at a setting of the shrinks. Refused with 7 at the setting 0, then with 1, 2.
-pub fn encode_with(samples: [f64; 24], setting: u32) -> Code
-    ensures { λ r. ⌜ r ≡ encodeWith samples setting ⌝ }
+// The code of samples at the scale that they give, at a setting of the shrinks; for the even profile too. Refused with 7 at the setting 0, then
+// with 1, 2.
+pub fn encode_with_over(samples: [f64; 24], setting: u32, odd: bool) -> Code
+    ensures { λ r. ⌜ r ≡ encodeOver (paritiesOf odd) samples setting ⌝ }
 {
     if setting == 0 {
         return zero_code(refusal::OUT_OF_RANGE, 0.0);
@@ -221,7 +229,14 @@ pub fn encode_with(samples: [f64; 24], setting: u32) -> Code
     if n != 0 {
         return zero_code(n, 0.0);
     }
-    code_at(score::choice_of(samples), samples, setting)
+    code_at(score::choice_of(samples), samples, setting, odd)
+}
+
+// The full coder's.
+pub fn encode_with(samples: [f64; 24], setting: u32) -> Code
+    ensures { λ r. ⌜ r ≡ encodeWith samples setting ⌝ }
+{
+    encode_with_over(samples, setting, true)
 }
 
 // The production call: the code of samples at the scale that they give.

@@ -9,7 +9,7 @@
 use mathlib.Core.Path.{_≡_}
 use mathlib.Core.Logic.{_≢_}
 use mathlib.Core.Bool.{true}
-use mathlib.Core.List.{List, [], _∷_, map, List·Memᴰ, List·Memᴰ·head}
+use mathlib.Core.List.{List, map, List·Memᴰ, List·Memᴰ·head}
 use Prim.Native.Nat.{ℕ, _+_, _<_}
 use lib.Dec.{T}
 use lib.ListN.{getD, length}
@@ -18,7 +18,7 @@ use lib.Ieee.{Float, nan, binary64, fits, ofInt}
 use lib.Ieee.Scale.{finite}
 use Rattle.float.specs.Distance.{sqDist, margin}
 use Rattle.tetra.specs.Lattice.{LatticePoint, HasWord}
-use Rattle.search.specs.Parity.{bothParities}
+use Rattle.search.specs.Parity.{bothParities, evenParities}
 use Rattle.search.specs.Block.{ruleOf, winnerFor, pointFrom}
 use Rattle.nearest.specs.Laws.Link.{p-lt}
 use Rattle.nearest.specs.Laws.Searched.{rule-ok, both-lt, in-both, only-zero, even-lt}
@@ -61,5 +61,5 @@ nearest-full t D y W H = nearest bothParities both-lt t D y W (in-both (W .point
 -- ---- the even profile searches parity 0: the lattice points are the even ones
 pub nearest-even : (t : List Float) → Target t → (y : List ℤ) (W : HasWord y) → W .point .p ≡ 0
     → ((z : List ℤ) (Z : LatticePoint z) → Z .p ≡ 0 → z ≢ y → sqDist y t + margin < sqDist z t)
-    → (n : ℕ) → Finds (0 ∷ []) n t y
-nearest-even t D y W e H = nearest (0 ∷ []) even-lt t D y W (List·Memᴰ·head e) (λ z Z m d. H z Z (only-zero (Z .p) m) d)
+    → (n : ℕ) → Finds evenParities n t y
+nearest-even t D y W e H = nearest evenParities even-lt t D y W (List·Memᴰ·head e) (λ z Z m d. H z Z (only-zero (Z .p) m) d)

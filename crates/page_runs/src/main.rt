@@ -1,5 +1,5 @@
 // Puts each text of standard input to the page reader. Texts stand one behind another, with a % between two. For each it prints what
-// `read` answers with a buffer of 24 cells, and then what unpage would print.
+// `read` answers with a buffer of 24 cells, what the reader of the even profile does, and then what unpage would print.
 use libc::STDIN_FILENO;
 use libc::STDOUT_FILENO;
 ghost use Prim.Native.Nat.{_≤_};
@@ -33,6 +33,12 @@ fn print_number(key: &[u8], n: u64) {
     or_close(io::print_decimal(STDOUT_FILENO, n));
 }
 
+fn print_read(key: &[u8], read: page::PageRead) {
+    print_number(key, read.number as u64);
+    print_number(b" count=", read.count as u64);
+    or_close(io::write_all(STDOUT_FILENO, b"\n"));
+}
+
 fn print(printed: shown::Printed)
     requires { ⌜ printed .length ≤ 20672 ⌝ }
 {
@@ -43,10 +49,8 @@ fn print(printed: shown::Printed)
 
 fn answer(text: &[u8]) {
     let mut cells = [0i32; 24];
-    let read = page::read(text, &mut cells);
-    print_number(b"number=", read.number as u64);
-    print_number(b" count=", read.count as u64);
-    or_close(io::write_all(STDOUT_FILENO, b"\n"));
+    print_read(b"number=", page::read(text, &mut cells));
+    print_read(b"even number=", even::read_page(text, &mut cells));
     print(shown::unpage(text));
 }
 

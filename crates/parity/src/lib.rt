@@ -379,7 +379,7 @@ pub fn parity(p: u32, t1: [f64; 8], t2: [f64; 8], t3: [f64; 8], u0: f64, setting
     middle(p, &g, &d, &w, &k, &o, &v, fall, e, t2, t3, u0, setting)
 }
 
-// ---- both parities
+// ---- the parities in turn
 // No winner yet.
 fn nobody() -> Winner
     ensures { λ r. ⌜ r ≡ def.nobody ⌝ }
@@ -419,11 +419,14 @@ fn choose(a: Winner, b: Winner) -> Winner
     a
 }
 
-// The winner over both parities at the targets of the three sections: parity 0, then parity 1.
-pub fn search(t1: [f64; 8], t2: [f64; 8], t3: [f64; 8], setting: u32) -> Winner
-    ensures { λ r. ⌜ r ≡ def.search tables (ruleOf setting) (record { t1 = t1; t2 = t2; t3 = t3 }) def.bothParities ⌝ }
+// The winner at the targets of the three sections: over parity 0, and then, where `odd` says so, over parity 1.
+pub fn search(t1: [f64; 8], t2: [f64; 8], t3: [f64; 8], setting: u32, odd: bool) -> Winner
+    ensures { λ r. ⌜ r ≡ def.search tables (ruleOf setting) (record { t1 = t1; t2 = t2; t3 = t3 }) (def.paritiesOf odd) ⌝ }
 {
     let none = nobody();
     let even = choose(none, parity(0, t1, t2, t3, cost_of(none), setting));
+    if !odd {
+        return even;
+    }
     choose(even, parity(1, t1, t2, t3, cost_of(even), setting))
 }

@@ -130,7 +130,7 @@ of-point y e z l q d = (
 
 -- ---- codes: c is the answer, which the call's definition says is d
 module _ (c d : Code) (q : c ≡ d) where
-  numbered : (k : ℕ) → d .number ≡ k → (k ≢ 0 → d ≡ emptyCode k) → Numbered k c
+  pub numbered : (k : ℕ) → d .number ≡ k → (k ≢ 0 → d ≡ emptyCode k) → Numbered k c
   numbered k n r = (ap (λ (a : Code). a .number) q ∙ n, λ h. q ∙ r h)
 
   keeps-code : (y : List ℤ) (e : Encoded) → y ≡ pointOf (c .word) → e ≡ encodeOf (c .point)

@@ -1,8 +1,10 @@
 -- THE DEMANDS, each said of what the public calls answer. Definitions only: src/lib.rt makes the calls and
 -- ensures what stands here, for every input. In order: words, points, samples, what samples give besides,
--- roots, pages, pages that are made, summaries beside pages. Where the definitions stand that this file and the contracts cite, below crates/:
+-- roots, pages, pages that are made, summaries beside pages, the even profile. Where the definitions stand that this file and the contracts
+-- cite, below crates/:
 --   a lattice point, a point that has a word   `LatticePoint`, `HasWord`              tetra/specs/Lattice
 --   why a point has no word, the four numbers  `Why`, `Refused`                       tetra/specs/Why
+--   all 24 coordinates have one parity         `OfParity`                             tetra/specs/Why
 --   the point that a word's fields define      `pointOf`                              tetra/specs/Tetra
 --   the numbers 1 and 2 of samples             `sampleNumber`                         score/specs/Samples
 --   the numbers of a call, in their order      `numberAt`: 7, 3, 1, 2, 4              encoder/specs/Encode
@@ -32,6 +34,9 @@
 --   the words with one more                    `longer`                               summary/specs/Answer
 --   rows that begin with a summary             `Agrees`, `Kept`                       summary/specs/SummaryRule
 --   what the cells of a row say                `RowIs`                                summary/specs/SummaryRule
+--   all 24 coordinates are even                `Even`                                 demands/specs/Promised
+--   the Rust's answers over the even points    `encodeAtOver`, `encodeOver`,          encoder/specs/Encode,
+--                                              `evenParities`                         search/specs/Parity
 -- The structs of the answers (`Encoded`, `Code`, ..) stand in src/ of their crates.
 use mathlib.Core.Path.{_≡_}
 use mathlib.Core.Bool.{true, false}
@@ -44,7 +49,7 @@ use lib.Ieee.{Float}
 use lib.Ieee.Scale.{finite}
 use lib.ListN.{length, getD, take, drop, replicate}
 use Rattle.tetra.specs.Lattice.{LatticePoint, HasWord}
-use Rattle.tetra.specs.Why.{Why, Refused}
+use Rattle.tetra.specs.Why.{OfParity, Why, Refused}
 use Rattle.tetra.specs.Tetra.{pointOf}
 use Rattle.tetra.specs.Block.{blockAt}
 use Rattle.tetra.specs.declared.Encoded.{Encoded}
@@ -72,8 +77,9 @@ use Rattle.summary.specs.declared.Summed.{Summed}
 use Rattle.summary.specs.Summary.{points, odds, summaryOf, cellsFor}
 use Rattle.summary.specs.Answer.{longer}
 use Rattle.summary.specs.SummaryRule.{Agrees, Kept, RowIs}
-use Rattle.demands.specs.Promised.{Coded}
+use Rattle.demands.specs.Promised.{Even, Coded}
 use Rattle.trace.specs.Trace.{Trace}
+use Rattle.even.specs.declared.Decoded.{Decoded}
 use Rattle.made.specs.declared.Made.{Made}
 use Rattle.made.specs.Made.{refusedLines, inArray as Made·inArray}
 
@@ -386,3 +392,78 @@ pub record RefusesToAdd (text : List ℕ) (old new : List ℤ) (r : Summed) : Ty
   pub other : (num : ℕ) (words : List ℕ) → Page text num words → length words < 64
       → cellsFor (length words + 1) ≤ length old → (Agrees words old → ⊥)
       → (r ≡ record { number = 14; count = 0 }) × (new ≡ old)
+
+-- ---- THE EVEN PROFILE (request 2026-06): words whose p, bit 0, is 0, and points whose 24 coordinates are all even
+-- all 24 coordinates are odd
+abbrev pub Odd : List ℤ → Type 0
+Odd y = OfParity y 1
+
+-- `check` of the word w answers n: 0 where its p is 0, and 13 where it is 1.
+abbrev pub ChecksWord : ℕ → ℕ → Type 0
+ChecksWord w n = (w % 2 ≡ 0 → n ≡ 0) × (w % 2 ≡ 1 → n ≡ 13)
+
+-- `decode` of it answers d: a word with p = 0 decodes as in the full coder, and the point is even; any other is
+-- refused, with 24 zeros.
+abbrev pub DecodesEven : ℕ → Decoded → Type 0
+DecodesEven w d = (w % 2 ≡ 0 → (d ≡ record { number = 0; point = pointOf w }) × Even (pointOf w))
+    × (w % 2 ≡ 1 → d ≡ record { number = 13; point = replicate 24 (pos 0) })
+
+-- `encode_point` of d's point answers e: that of a word with p = 0 encodes to the low 47 bits of the word.
+abbrev pub BackToEven : ℕ → Encoded → Type 0
+BackToEven w e = w % 2 ≡ 0 → e ≡ record { number = 0; section = 0; word = w % 2 ^ 47 }
+
+-- `encode_point` of the point y answers e, where `encode` of the full coder answers f, and `decode` of e's word
+-- answers d. A point is accepted exactly where it has a word and is even,
+abbrev pub AcceptsEven : List ℤ → Encoded → Type 0
+AcceptsEven y e = (e .number ≡ 0) ↔ (HasWord y × Even y)
+
+-- and refused with 13 exactly where all of its coordinates are odd. Every other one is answered as by the full
+-- coder: mixed parities by 5, and then 10, 11, 12.
+abbrev pub RefusesOdd : List ℤ → Encoded → Encoded → Type 0
+RefusesOdd y e f = ((e .number ≡ 13) ↔ Odd y) × (Odd y → e ≡ record { number = 13; section = 0; word = 0 })
+    × ((Odd y → ⊥) → e ≡ f)
+
+-- The word of an accepted point is below 2 ^ 47, and the profile decodes it back to the point.
+abbrev pub KeepsEvenPoint : List ℤ → Encoded → Decoded → Type 0
+KeepsEvenPoint y e d = e .number ≡ 0 → (e .word < 2 ^ 47) × (d ≡ record { number = 0; point = y })
+
+-- Samples: the call answers c, `decode` of c's word d, and `encode_point` of c's point e. The word of an accepted
+-- call is below 2 ^ 47 and decodes to its point, and the point encodes to the word, all in the profile: so both
+-- are even.
+abbrev pub KeepsEvenCode : Code → Decoded → Encoded → Type 0
+KeepsEvenCode c d e = c .number ≡ 0
+    → (c .word < 2 ^ 47) × (d ≡ record { number = 0; point = c .point })
+    × (e ≡ record { number = 0; section = 0; word = c .word })
+
+-- (demand 3) The point y is nearer to the target t than every other lattice point with even coordinates, by more
+-- than 2 ^ -20.
+abbrev pub NearestEvenBy : List ℤ → List Float → Type 0
+NearestEvenBy y t = (z : List ℤ) → LatticePoint z → Even z → z ≢ y → sqDist y t + margin < sqDist z t
+
+abbrev pub ReturnsNearestEven : List Float → Float → Code → Type 0
+ReturnsNearestEven x s c = c .number ≡ 0
+    → (y : List ℤ) → HasWord y → Even y → NearestEvenBy y (quotientsOf x s) → c .point ≡ y
+
+-- At a scale, where the full coder's answer f has an even point, it is the profile's answer c.
+abbrev pub AgreesWhereEven : Code → Code → Type 0
+AgreesWhereEven c f = Even (f .point) → c ≡ f
+
+-- Pages: `read_page` of a text answers r, and the buffer that held `old` then holds `new`.
+-- no word has p = 1
+abbrev pub EvenWords : List ℕ → Type 0
+EvenWords words = (i : ℕ) → i < length words → getD words i 0 % 2 ≡ 0
+
+-- A page of such words that has room is read as by the full coder,
+abbrev pub ReadsEvenPages : List ℕ → List ℤ → List ℤ → PageRead → Type 0
+ReadsEvenPages text old new r = (num : ℕ) (words : List ℕ) → Page text num words → EvenWords words
+    → 24 * length words ≤ length old
+    → (r ≡ record { number = 0; count = length words }) × (new ≡ pageCounts num words ++ drop (24 * length words) old)
+
+-- (demand 1) and no other text is. It is refused with 9 where it is no page, then with 13 where a word has p = 1,
+-- then with 8 for a buffer that is too short; count 0, and the buffer is untouched.
+pub record RefusesToReadEven (text : List ℕ) (old new : List ℤ) (r : PageRead) : Type 0 where
+  pub no-page : NoPage text → (r ≡ record { number = 9; count = 0 }) × (new ≡ old)
+  pub odd-word : (num : ℕ) (words : List ℕ) → Page text num words → (i : ℕ) → i < length words
+      → getD words i 0 % 2 ≡ 1 → (r ≡ record { number = 13; count = 0 }) × (new ≡ old)
+  pub short : (num : ℕ) (words : List ℕ) → Page text num words
+      → EvenWords words → length old < 24 * length words → (r ≡ record { number = 8; count = 0 }) × (new ≡ old)

@@ -8,7 +8,9 @@ ghost use Rattle.tetra.specs.Encode.{encodeOf};
 ghost use Rattle.score.specs.Samples.{sampleNumber};
 ghost use Rattle.score.specs.Score.{tOf};
 ghost use Rattle.score.specs.Scale.{lowerScale};
-ghost use Rattle.encoder.specs.Encode.{numberAt, numberOf, encodeAtScale, encodeWith, encodeSamples};
+ghost use Rattle.search.specs.Parity.{evenParities};
+ghost use Rattle.encoder.specs.Encode.{numberAt, numberOf, encodeAtScale, encodeWith, encodeSamples, encodeAtOver, encodeOver};
+ghost use Rattle.even.specs.Even.{evenDecoded, evenEncoded};
 ghost use Rattle.promise.specs.Demands.{PointOfWord, BackToWord};
 ghost use Rattle.promise.specs.Demands.{RefusesOthers, AcceptsMembers, KeepsPoint, RefusesByFour, SaysWhy};
 ghost use Rattle.promise.specs.Demands.{Numbered, KeepsCode, ReturnsNearest, Scores, Scaled};
@@ -20,7 +22,12 @@ ghost use Rattle.promise.specs.Demands.{MakesPages, MakesNoOther};
 ghost use Rattle.promise.specs.Demands.{SummarisesPages, RowsSay, RefusesToSummarise, ChecksSummary, RefusesToCheck};
 ghost use Rattle.promise.specs.Demands.{AddsWord, KeepsSummary, RefusesToAdd};
 ghost use Rattle.promise.specs.Demands.{ReadsPages, RoundsToEven, RefusesNoPage, RefusesShort, AcceptsPagesOnly};
+ghost use Rattle.promise.specs.Demands.{ChecksWord, DecodesEven, BackToEven};
+ghost use Rattle.promise.specs.Demands.{AcceptsEven, RefusesOdd, KeepsEvenPoint};
+ghost use Rattle.promise.specs.Demands.{KeepsEvenCode, ReturnsNearestEven, AgreesWhereEven};
+ghost use Rattle.promise.specs.Demands.{ReadsEvenPages, RefusesToReadEven};
 use encoder::Code;
+use even::Decoded;
 use made::Made;
 use page::Formed;
 use page::PageRead;
@@ -50,6 +57,33 @@ pub struct FromSamples {
     pub code: Code,
     pub decoded: [i32; 24],
     pub encoded: Encoded,
+}
+
+// A word's number in the even profile, its point, and what the point encodes to.
+pub struct EvenFromWord {
+    pub number: u32,
+    pub decoded: Decoded,
+    pub back: Encoded,
+}
+
+// A point's word in the profile, the full coder's answer, and what the profile's word decodes to.
+pub struct EvenFromPoint {
+    pub coded: Encoded,
+    pub full: Encoded,
+    pub back: Decoded,
+}
+
+// The profile's code of samples, what its word decodes to, and what its point encodes to.
+pub struct EvenFromSamples {
+    pub code: Code,
+    pub decoded: Decoded,
+    pub encoded: Encoded,
+}
+
+// The profile's code of samples, and the full coder's.
+pub struct EvenAndFull {
+    pub even: Code,
+    pub full: Code,
 }
 
 // ---- words and points
@@ -228,4 +262,95 @@ pub fn added_word(text: &[u8], word: u64, rows: &mut [i32]) -> Summed
     ensures { λ r. ⌜ RefusesToAdd (now (text .entry)) (now (rows .entry)) (now (rows .exit)) r ⌝ }
 {
     summary::add(text, word, rows)
+}
+
+// ---- the even profile
+// `check` and `decode` of a word, and `encode_point` of its point.
+pub fn even_word(word: u64) -> EvenFromWord
+    ensures { λ r. ⌜ ChecksWord word (r .number) ⌝ }
+    ensures { λ r. ⌜ DecodesEven word (r .decoded) ⌝ }
+    ensures { λ r. ⌜ BackToEven word (r .back) ⌝ }
+{
+    let number = even::check(word);
+    let decoded = even::decode(word);
+    let point = decoded.point;
+    let back = even::encode_point(point);
+    EvenFromWord {
+        number,
+        decoded,
+        back,
+    }
+}
+
+// `encode_point`, the full coder's `encode` beside it, and `decode` of its word.
+pub fn even_point(point: [i32; 24]) -> EvenFromPoint
+    ensures { λ r. ⌜ AcceptsEven point (r .coded) ⌝ }
+    ensures { λ r. ⌜ RefusesOdd point (r .coded) (r .full) ⌝ }
+    ensures { λ r. ⌜ KeepsEvenPoint point (r .coded) (r .back) ⌝ }
+{
+    let coded = even::encode_point(point);
+    let full = tetra::encode(point);
+    let back = even::decode(coded.word);
+    EvenFromPoint { coded, full, back }
+}
+
+// `encode_at_scale` over the even points, with `decode` of its word and `encode_point` of its point.
+pub fn even_at_scale(samples: [f64; 24], scale: f64, setting: u32) -> EvenFromSamples
+    ensures { λ r. ⌜ Numbered (numberAt samples scale setting) (r .code) ⌝ }
+    ensures { λ r. ⌜ r .code ≡ encodeAtOver evenParities samples scale setting ⌝ }
+    ensures { λ r. ⌜ KeepsEvenCode (r .code) (r .decoded) (r .encoded) ⌝ }
+    ensures { λ r. ⌜ ReturnsNearestEven samples scale (r .code) ⌝ }
+{
+    with_even_back(even::encode_at_scale(samples, scale, setting))
+}
+
+// The same beside the full coder's answer.
+pub fn even_beside_full(samples: [f64; 24], scale: f64, setting: u32) -> EvenAndFull
+    ensures { λ r. ⌜ AgreesWhereEven (r .even) (r .full) ⌝ }
+{
+    let full = encoder::encode_at_scale(samples, scale, setting);
+    let even = even::encode_at_scale(samples, scale, setting);
+    EvenAndFull { even, full }
+}
+
+// `encode_with` over the even points, in the same way: at the scale that the samples give.
+pub fn even_with_setting(samples: [f64; 24], setting: u32) -> EvenFromSamples
+    ensures { λ r. ⌜ Numbered (numberOf samples setting) (r .code) ⌝ }
+    ensures { λ r. ⌜ r .code ≡ encodeOver evenParities samples setting ⌝ }
+    ensures { λ r. ⌜ KeepsEvenCode (r .code) (r .decoded) (r .encoded) ⌝ }
+{
+    with_even_back(even::encode_with(samples, setting))
+}
+
+// Its `encode`, in the same way: it names no setting.
+pub fn even_at_own_scale(samples: [f64; 24]) -> EvenFromSamples
+    ensures { λ r. ⌜ Numbered (sampleNumber samples) (r .code) ⌝ }
+    ensures { λ r. ⌜ r .code ≡ encodeOver evenParities samples 8 ⌝ }
+    ensures { λ r. ⌜ KeepsEvenCode (r .code) (r .decoded) (r .encoded) ⌝ }
+{
+    with_even_back(even::encode(samples))
+}
+
+// A code, `decode` of its word and `encode_point` of its point.
+fn with_even_back(code: Code) -> EvenFromSamples
+    ensures { λ r. ⌜ r .code ≡ code ⌝ }
+    ensures { λ r. ⌜ r .decoded ≡ evenDecoded (r .code .word) ⌝ }
+    ensures { λ r. ⌜ r .encoded ≡ evenEncoded (r .code .point) ⌝ }
+{
+    let decoded = even::decode(code.word);
+    let point = code.point;
+    let encoded = even::encode_point(point);
+    EvenFromSamples {
+        code,
+        decoded,
+        encoded,
+    }
+}
+
+// `read_page`.
+pub fn even_page(text: &[u8], out: &mut [i32]) -> PageRead
+    ensures { λ r. ⌜ ReadsEvenPages (now (text .entry)) (now (out .entry)) (now (out .exit)) r ⌝ }
+    ensures { λ r. ⌜ RefusesToReadEven (now (text .entry)) (now (out .entry)) (now (out .exit)) r ⌝ }
+{
+    even::read_page(text, out)
 }

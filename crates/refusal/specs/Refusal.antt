@@ -1,6 +1,6 @@
 -- The numbers by which a call refuses bad input: document 01, "Numbers that answer a bad call", with what the requests of document 02 add:
--- 2026-01 to 2, 3 and 9; 2026-02 to 5, which it splits, and 10 to 12; 2026-04 adds to 9, and 14. No call answers 13. A call that is
--- accepted carries 0. Assumes nothing.
+-- 2026-01 to 2, 3 and 9; 2026-02 to 5, which it splits, and 10 to 12; 2026-04 adds to 9, and 14; 2026-06 13. A call that is accepted
+-- carries 0. Assumes nothing.
 use mathlib.Core.Path.{_≡_, refl}
 use mathlib.Core.List.{List, [], _∷_}
 use Prim.Native.Nat.{ℕ}
@@ -53,6 +53,10 @@ outside = 11
 abbrev pub wrongSum : ℕ
 wrongSum = 12
 
+-- a word's p is 1, or a point's coordinates are all odd, where the even profile is asked
+abbrev pub allOdd : ℕ
+allOdd = 13
+
 -- a summary and its page disagree
 abbrev pub disagrees : ℕ
 disagrees = 14
@@ -61,8 +65,8 @@ disagrees = 14
 abbrev pub numbers : List ℕ
 numbers =
     notFinite ∷ tooLarge ∷ noScale ∷ tooFar ∷ mixedParity ∷ tooWide ∷ outOfRange ∷ noRoom ∷ noPage ∷ noCodeword ∷ outside ∷ wrongSum
-    ∷ disagrees ∷ []
+    ∷ allOdd ∷ disagrees ∷ []
 
 -- they are the numbers of the documents, ascending, so no two reasons share one
-pub as-listed : numbers ≡ 1 ∷ 2 ∷ 3 ∷ 4 ∷ 5 ∷ 6 ∷ 7 ∷ 8 ∷ 9 ∷ 10 ∷ 11 ∷ 12 ∷ 14 ∷ []
+pub as-listed : numbers ≡ 1 ∷ 2 ∷ 3 ∷ 4 ∷ 5 ∷ 6 ∷ 7 ∷ 8 ∷ 9 ∷ 10 ∷ 11 ∷ 12 ∷ 13 ∷ 14 ∷ []
 as-listed = refl

@@ -39,11 +39,14 @@ pub const OUTSIDE: u32 = 11;
 // A point's sum of k is even where it has to be odd, or odd where even.
 pub const WRONG_SUM: u32 = 12;
 
+// A word's p is 1, or a point's coordinates are all odd, where the even profile is asked.
+pub const ALL_ODD: u32 = 13;
+
 // A summary and its page disagree.
 pub const DISAGREES: u32 = 14;
 
 // All of them, ascending. The contract holds these constants to the definitions, so that neither can be changed alone.
-pub fn numbers() -> [u32; 13]
+pub fn numbers() -> [u32; 14]
     ensures { λ r. ⌜ r ≡ numbers ⌝ }
 {
     [
@@ -59,6 +62,7 @@ pub fn numbers() -> [u32; 13]
         NO_CODEWORD,
         OUTSIDE,
         WRONG_SUM,
+        ALL_ODD,
         DISAGREES,
     ]
 }

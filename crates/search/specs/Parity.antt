@@ -149,9 +149,16 @@ unfoldable pub searchOver : Tables → Rule → Targets → Winner → List ℕ 
 searchOver g u t best [] = best
 searchOver g u t best (p ∷ ps) = searchOver g u t (choose best (parity g u t p (costOf best))) ps
 
--- the full coder searches parity 0, then parity 1
+-- the full coder searches parity 0, then parity 1; the even profile parity 0 alone
 abbrev pub bothParities : List ℕ
 bothParities = 0 ∷ 1 ∷ []
+
+abbrev pub evenParities : List ℕ
+evenParities = 0 ∷ []
+
+-- which of the two it is: whether odd points are searched
+abbrev pub paritiesOf : Bool → List ℕ
+paritiesOf odd = cond odd bothParities evenParities
 
 unfoldable pub search : Tables → Rule → Targets → List ℕ → Winner
 search g u t ps = searchOver g u t nobody ps

@@ -187,7 +187,7 @@ fn accepted(word: u64) -> Encoded
 }
 
 // Whether all coordinates have parity `p`.
-fn one_parity(y: [i32; 24], p: u32) -> bool
+pub fn one_parity(y: [i32; 24], p: u32) -> bool
     ensures { λ r. ⌜ r ≡ uniform p y ⌝ }
 {
     for j in 0..24usize {

@@ -1,4 +1,4 @@
--- What `page::parse` answers, as `yultarvas_parse_page` hands it on. Assumes nothing.
+-- What a call that reads a page answers and leaves, and what `page::parse` answers, as `yultarvas_parse_page` hands it on. Assumes nothing.
 use mathlib.Core.Path.{_≡_, refl, ap, sym, _∙_}
 use mathlib.Core.Bool.{cond}
 use mathlib.Core.List.{List}
@@ -7,12 +7,28 @@ use native.Mathlib.Omega.{arith}
 use lib.Dec.{ltb}
 use lib.ListN.{length, take}
 use lib.Seq.{take-append-seam}
+use Rattle.page.specs.declared.PageRead.{PageRead}
 use Rattle.page.specs.declared.Parsed.{Parsed}
 use Rattle.page.specs.Answer.{Reading, page, malformed, numberIn, numIn, wordsIn, parsedOf}
 use Rattle.page.specs.Reader.{readingOf}
 use Rattle.page.specs.PageRule.{only-pages}
-use Rattle.yultarvas.specs.Calls.{wordsNumber}
+use Rattle.yultarvas.specs.Calls.{left, wordsNumber}
+use Rattle.yultarvas.proofs.Answers.{refused, written}
 
+-- ---- counts: the answer p, which is d, and the count of blocks into a cell that held `was`
+module _ (p d : PageRead) (e : p ≡ d) (was : ℕ) where
+  number-is : p .number ≡ d .number
+  number-is = ap (λ (a : PageRead). a .number) e
+
+  pub read-refused : (p .number ≡ 0 → ⊥) → (p .number ≡ d .number) × (was ≡ left (d .number) (d .count) was)
+  read-refused = refused ℕ (d .number) (d .count) was (p .number) number-is
+
+  pub read-done : p .number ≡ 0 → (0 ≡ d .number) × (p .count ≡ left (d .number) (d .count) was)
+  read-done z =
+      let r = written ℕ (d .number) (d .count) was (p .number) number-is z in
+      (r .0, ap (λ (a : PageRead). a .count) e ∙ r .1)
+
+-- ---- words
 -- a number other than 0 is that of no page
 pub no-page : (R : Reading) (p : Parsed) (old : List ℕ) → p ≡ parsedOf R → (p .number ≡ 0 → ⊥) → p .number ≡ wordsNumber R old
 unfolding parsedOf numberIn

@@ -2,8 +2,9 @@
 // A slice is a pointer and a length, in this order; a cell is a pointer. Each call answers a number: 0, or
 // that of the refusal, and then nothing that was lent is written. A block stands at a slice's start. 8 says
 // that a slice is too short for it, and stands before all other numbers; of a page after 9. The call that
-// writes a page answers a block beside the number.
+// writes a page answers a block beside the number. The calls of the even profile stand in profile.rt.
 mod environment;
+mod profile;
 mod slices;
 
 use refusal::NO_ROOM;

@@ -1,7 +1,7 @@
 -- `auto` meets its contract. Assumes nothing.
 use borrow.Author.Needs.{needs}
 use mathlib.Core.Path.{sym, _∙_}
-use Rattle.answers.specs.Answers.{autoAnswer}
+use Rattle.answers.specs.Answers.{autoOver}
 use Rattle.answers.proofs.auto.Statement.{statement}
 use Rattle.answers.proofs.auto.Tie as tie
 
@@ -18,7 +18,7 @@ no-request-requires : tie.Need-no-request-requires
 no-request-requires c κs = search needs
 
 returns : tie.Need-returns
-unfolding autoAnswer
+unfolding autoOver
 returns c =
     let e = sym (c .before .before .before .read-decimal .ensures) ∙ c .before .enum-told .given .1 in
     rw e (c .no-request .ensures)
@@ -29,27 +29,27 @@ read-samples-requires c κs = search needs
 setting-requires : tie.Need-setting-requires
 setting-requires c κs = search needs
 
-encode-with-requires : tie.Need-encode-with-requires
-encode-with-requires c κs = search needs
+encode-with-over-requires : tie.Need-encode-with-over-requires
+encode-with-over-requires c κs = search needs
 
 code-line-requires : tie.Need-code-line-requires
 code-line-requires c κs = search needs
 
 returns-2 : tie.Need-returns-2
-unfolding autoAnswer
+unfolding autoOver
 returns-2 c =
     let t = c .before .before .before .before in
     let r = t .before .before .before in
     let n = r .before .before in
     let e = sym (n .before .before .read-decimal .ensures) ∙ n .n .given .1 in
     rw (e, ← r .read-samples .ensures, t .if1 .taken)
-    (rw (c .before .encode-with .ensures, c .before .before .setting .ensures) at (c .code-line .ensures))
+    (rw (c .before .encode-with-over .ensures, c .before .before .setting .ensures) at (c .code-line .ensures))
 
 no-request-requires-2 : tie.Need-no-request-requires-2
 no-request-requires-2 c κs = search needs
 
 returns-3 : tie.Need-returns-3
-unfolding autoAnswer
+unfolding autoOver
 returns-3 c =
     let r = c .before .before .before .before in
     let n = r .before .before in
@@ -67,7 +67,7 @@ auto-spec =
     returns
     read-samples-requires
     setting-requires
-    encode-with-requires
+    encode-with-over-requires
     code-line-requires
     returns-2
     no-request-requires-2

@@ -1,7 +1,7 @@
 -- `scale` meets its contract. Assumes nothing.
 use borrow.Author.Needs.{needs}
 use mathlib.Core.Path.{sym, _∙_}
-use Rattle.answers.specs.Answers.{scaleAnswer}
+use Rattle.answers.specs.Answers.{scaleOver}
 use Rattle.answers.proofs.scale.Statement.{statement}
 use Rattle.answers.proofs.scale.Tie as tie
 
@@ -18,7 +18,7 @@ no-request-requires : tie.Need-no-request-requires
 no-request-requires c κs = search needs
 
 returns : tie.Need-returns
-unfolding scaleAnswer
+unfolding scaleOver
 returns c =
     let e = sym (c .before .before .before .read-decimal .ensures) ∙ c .before .enum-told .given .1 in
     rw e (c .no-request .ensures)
@@ -36,7 +36,7 @@ no-request-requires-2 : tie.Need-no-request-requires-2
 no-request-requires-2 c κs = search needs
 
 returns-2 : tie.Need-returns-2
-unfolding scaleAnswer
+unfolding scaleOver
 returns-2 c =
     let d = c .before .before .before in
     let n = d .before .before in
@@ -50,14 +50,14 @@ read-samples-requires c κs = search needs
 setting-requires : tie.Need-setting-requires
 setting-requires c κs = search needs
 
-encode-at-scale-requires : tie.Need-encode-at-scale-requires
-encode-at-scale-requires c κs = search needs
+encode-at-scale-over-requires : tie.Need-encode-at-scale-over-requires
+encode-at-scale-over-requires c κs = search needs
 
 code-line-requires : tie.Need-code-line-requires
 code-line-requires c κs = search needs
 
 returns-3 : tie.Need-returns-3
-unfolding scaleAnswer
+unfolding scaleOver
 returns-3 c =
     let t = c .before .before .before .before in
     let r = t .before .before .before in
@@ -66,13 +66,13 @@ returns-3 c =
     let e = sym (n .before .before .read-decimal .ensures) ∙ n .n .given .1 in
     let f = sym (b .before .before .read-double .ensures) ∙ b .by .given .1 in
     rw (e, f, ← r .read-samples .ensures, t .if1 .taken)
-    (rw (c .before .encode-at-scale .ensures, c .before .before .setting .ensures) at (c .code-line .ensures))
+    (rw (c .before .encode-at-scale-over .ensures, c .before .before .setting .ensures) at (c .code-line .ensures))
 
 no-request-requires-3 : tie.Need-no-request-requires-3
 no-request-requires-3 c κs = search needs
 
 returns-4 : tie.Need-returns-4
-unfolding scaleAnswer
+unfolding scaleOver
 returns-4 c =
     let r = c .before .before .before .before in
     let b = r .before .before in
@@ -97,7 +97,7 @@ scale-spec =
     returns-2
     read-samples-requires
     setting-requires
-    encode-at-scale-requires
+    encode-at-scale-over-requires
     code-line-requires
     returns-3
     no-request-requires-3

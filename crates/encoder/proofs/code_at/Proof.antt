@@ -7,16 +7,16 @@ use lib.Ieee.{Float, ofBits, div, neg}
 use Rattle.float.specs.Calls.{quotientsOf}
 use Rattle.score.specs.declared.Choice.{Choice}
 use Rattle.score.specs.declared.Choice.the-variants.{Divide}
-use Rattle.search.specs.Parity.{bothParities}
+use Rattle.search.specs.Parity.{paritiesOf}
 use Rattle.encoder.specs.declared.Code.{Code}
 use Rattle.encoder.specs.Encode.{twoScales, scaledBack, codeAt}
 use Rattle.encoder.proofs.code_at.Statement.{statement}
 use Rattle.encoder.proofs.code_at.Tie as tie
 
-divided : (x : List Float) (n : ℕ) (m s : Float) (h : Choice) (q : List Float) (b r : Code) → h ≡ Divide m s → q ≡ quotientsOf x m
-    → b ≡ twoScales bothParities q s n → r ≡ scaledBack m b → r ≡ codeAt bothParities h x n
+divided : (ps : List ℕ) (x : List Float) (n : ℕ) (m s : Float) (h : Choice) (q : List Float) (b r : Code) → h ≡ Divide m s → q ≡ quotientsOf x m
+    → b ≡ twoScales ps q s n → r ≡ scaledBack m b → r ≡ codeAt ps h x n
 unfolding codeAt
-divided x n m s h q b r e p u v = rw (e, ← p, ← u) v
+divided ps x n m s h q b r e p u v = rw (e, ← p, ← u) v
 
 enum-told : tie.Need-enum-told
 enum-told c = search needs
@@ -55,7 +55,7 @@ unfolding codeAt
 returns-3 c =
     let s = c .before .before .before .before in
     let a = s .before .before .args in
-    divided (a .samples) (a .setting) _ _ (a .choice) _ _ _ (s .choice2 .given .1) (c .before .before .quotients .ensures)
+    divided (paritiesOf (a .odd)) (a .samples) (a .setting) _ _ (a .choice) _ _ _ (s .choice2 .given .1) (c .before .before .quotients .ensures)
     (c .before .two-scales2 .ensures)
     (c .scaled-back .ensures)
 

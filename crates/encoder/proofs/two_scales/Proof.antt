@@ -5,16 +5,16 @@ use Prim.Native.Nat.{ℕ}
 use borrow.Author.Needs.{needs}
 use lib.Ieee.{Float}
 use Rattle.score.specs.Scale.{secondScale}
-use Rattle.search.specs.Parity.{bothParities}
+use Rattle.search.specs.Parity.{paritiesOf}
 use Rattle.encoder.specs.declared.Code.{Code}
 use Rattle.encoder.specs.Encode.{codeFor, higher, twoScales}
 use Rattle.encoder.proofs.two_scales.Statement.{statement}
 use Rattle.encoder.proofs.two_scales.Tie as tie
 
-both : (x : List Float) (s : Float) (n : ℕ) {a b r : Code} {s2 : Float} → a ≡ codeFor bothParities x s n → s2 ≡ secondScale s
-    → b ≡ codeFor bothParities x s2 n → r ≡ higher a b → r ≡ twoScales bothParities x s n
+both : (ps : List ℕ) (x : List Float) (s : Float) (n : ℕ) {a b r : Code} {s2 : Float} → a ≡ codeFor ps x s n → s2 ≡ secondScale s
+    → b ≡ codeFor ps x s2 n → r ≡ higher a b → r ≡ twoScales ps x s n
 unfolding twoScales
-both x s n p q u v = rw (← p, ← q, ← u) v
+both ps x s n p q u v = rw (← p, ← q, ← u) v
 
 code-for-requires : tie.Need-code-for-requires
 code-for-requires c κs = search needs
@@ -31,7 +31,7 @@ higher-requires c κs = search needs
 returns : tie.Need-returns
 returns c =
     let a = c .before .before .before .before .args in
-    both (a .samples) (a .scale) (a .setting) (c .before .before .before .code-for .ensures) (c .before .before .second-scale .ensures)
+    both (paritiesOf (a .odd)) (a .samples) (a .scale) (a .setting) (c .before .before .before .code-for .ensures) (c .before .before .second-scale .ensures)
     (c .before .code-for2 .ensures)
     (c .higher .ensures)
 

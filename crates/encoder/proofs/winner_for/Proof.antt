@@ -9,7 +9,7 @@ use lib.Ieee.{Float, nan}
 use Rattle.laws.specs.Words.{tab}
 use Rattle.laws.specs.Laws.Lists.{tab-eq}
 use Rattle.search.specs.Tables.{tables}
-use Rattle.search.specs.Parity.{Targets, bothParities}
+use Rattle.search.specs.Parity.{Targets, paritiesOf}
 use Rattle.search.specs.Parity as parity
 use Rattle.search.specs.Block.{ruleOf, trioOf, sections}
 use Rattle.encoder.proofs.winner_for.Statement.{statement}
@@ -48,7 +48,7 @@ returns c =
     let s = c .before .before .before in
     let a = s .before .before .args in
     c .search .ensures
-    ∙ ap (λ (t : Targets). parity.search tables (ruleOf (a .setting)) t bothParities)
+    ∙ ap (λ (t : Targets). parity.search tables (ruleOf (a .setting)) t (paritiesOf (a .odd)))
     (cut (a .t) (s .before .trio .result) _ _ _ (s .before .trio .ensures) (s .section .ensures)
     (c .before .before .section2 .ensures) (c .before .section3 .ensures))
 

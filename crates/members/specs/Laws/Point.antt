@@ -26,6 +26,7 @@ use Rattle.trellis.specs.Laws.Rows.{prefix-read, middle-read, next-read, suffix
 use Rattle.trellis.specs.Laws.Back.{label-parts}
 use Rattle.trellis.specs.Laws.Trio.{trio-fits}
 use Rattle.tetra.specs.Lattice.{trio, Codeword, sectionRanks, inOwnClass, HasWord}
+use Rattle.tetra.specs.Why.{OfParity}
 use Rattle.tetra.specs.Tetra.{natural}
 use Rattle.tetra.specs.Laws.Orders.{natural-length, natural-at, trio-natural, parity-natural}
 use Rattle.tetra.specs.Laws.Point.{ranks-part, below-append, point-at}
@@ -246,10 +247,13 @@ module _ (p : ℕ) (P0 : p < 2) (e1 e2 e3 : Entry) (H : Through p e1 e2 e3) wher
       (ap class sec2 ∙ class3' ∙ last-class)
       ∙ turn r1 r2 p P0
 
+  natural-parity : OfParity (natural z) p
+  natural-parity = parity-natural p z size all-p
+
   natural-word : HasWord (natural z)
   natural-word =
       record {
-        point = record { size = natural-length z; p = p; one-parity = parity-natural p z size all-p; codeword = codeword; sum-of-k = sum };
+        point = record { size = natural-length z; p = p; one-parity = natural-parity; codeword = codeword; sum-of-k = sum };
         first = first;
         second = second;
         third = third;
@@ -303,3 +307,10 @@ module _ (p : ℕ) (P0 : p < 2) (e1 e2 e3 : Entry) (H : Through p e1 e2 e3) wher
 pub winner-word : (w : Winner) → w .p < 2 → Through (w .p) (w .s1) (w .s2) (w .s3) → HasWord (block.pointFrom w)
 unfolding glue
 winner-word w P0 H = subst HasWord (natural-is (w .p) P0 (w .s1) (w .s2) (w .s3) H) (natural-word (w .p) P0 (w .s1) (w .s2) (w .s3) H)
+
+-- and coordinates of its parity
+pub winner-parity : (w : Winner) → w .p < 2 → Through (w .p) (w .s1) (w .s2) (w .s3) → OfParity (block.pointFrom w) (w .p)
+unfolding glue
+winner-parity w P0 H =
+    subst (λ (y : List ℤ). OfParity y (w .p)) (natural-is (w .p) P0 (w .s1) (w .s2) (w .s3) H)
+    (natural-parity (w .p) P0 (w .s1) (w .s2) (w .s3) H)

@@ -10,6 +10,7 @@ use lib.Ieee.{Float, nan, lt}
 use Rattle.laws.specs.Laws.Lists.{tab-at}
 use Rattle.trellis.specs.Laws.Trio.{trio-fits}
 use Rattle.tetra.specs.Lattice.{HasWord}
+use Rattle.tetra.specs.Why.{OfParity}
 use Rattle.search.specs.declared.Winner.{Winner}
 use Rattle.search.specs.Solve.{infinity}
 use Rattle.search.specs.Tables.{tables}
@@ -22,7 +23,7 @@ use Rattle.nearest.specs.Laws.Sections.{up8, up16, up24}
 use Rattle.members.specs.Accepted.{Accepted}
 use Rattle.members.specs.Laws.Sizes.{Target}
 use Rattle.members.specs.Laws.Paths.{Through, found-through, first-found}
-use Rattle.members.specs.Laws.Point.{winner-word}
+use Rattle.members.specs.Laws.Point.{winner-word, winner-parity}
 
 -- ---- the sections' targets
 module _ (t : List Float) (A : Accepted t) where
@@ -85,8 +86,16 @@ module _ (t : List Float) (A : Accepted t) where
         over-found qs (choose nobody (parity tables u ts q infinity))
         (choose-first (parity tables u ts q infinity) (first-found u (rule-ok n) ts target1 target2 target3 q (i q (List·Memᴰ·head refl))))
 
-    pub point-has-word : (ps : List ℕ) → 0 < length ps → ((q : ℕ) → List·Memᴰ q ps → q < 2) → HasWord (pointFrom (winnerFor ps n t))
+    -- so its winner goes through three members,
+    winner-good : (ps : List ℕ) → 0 < length ps → ((q : ℕ) → List·Memᴰ q ps → q < 2)
+        → (winnerFor ps n t .p < 2) × Through (winnerFor ps n t .p) (winnerFor ps n t .s1) (winnerFor ps n t .s2) (winnerFor ps n t .s3)
     unfolding search
-    point-has-word ps l i =
-        let g = over-good ps i nobody (λ q. absurd (subst T (sym q) tt)) (finds ps l i) in
-        winner-word (winnerFor ps n t) (g .0) (g .1)
+    winner-good ps l i = over-good ps i nobody (λ q. absurd (subst T (sym q) tt)) (finds ps l i)
+
+    -- and its point has a word, and coordinates of the winner's parity
+    pub point-has-word : (ps : List ℕ) → 0 < length ps → ((q : ℕ) → List·Memᴰ q ps → q < 2) → HasWord (pointFrom (winnerFor ps n t))
+    point-has-word ps l i = let g = winner-good ps l i in winner-word (winnerFor ps n t) (g .0) (g .1)
+
+    pub point-parity : (ps : List ℕ) → 0 < length ps → ((q : ℕ) → List·Memᴰ q ps → q < 2)
+        → OfParity (pointFrom (winnerFor ps n t)) (winnerFor ps n t .p)
+    point-parity ps l i = let g = winner-good ps l i in winner-parity (winnerFor ps n t) (g .0) (g .1)

@@ -1,13 +1,13 @@
 -- What is searched: every setting runs at most the eight shrinks there are, and the parities are below 2. Assumes nothing.
 use mathlib.Core.Path.{_≡_, refl, sym, subst}
 use mathlib.Core.Bool.{Bool, true, false, cond}
-use mathlib.Core.List.{[], _∷_, List·Memᴰ, List·Memᴰ·head, List·Memᴰ·tail, List·Memᴰ·not-nil}
+use mathlib.Core.List.{List·Memᴰ, List·Memᴰ·head, List·Memᴰ·tail, List·Memᴰ·not-nil}
 use Prim.Native.Nat.{ℕ, zero, suc, _≤_, _<_}
 use native.Mathlib.Nat.{zero-lt-suc, le-refl}
 use native.Mathlib.Omega.{arith}
 use borrow.Author.Tests.{ltb-true}
 use lib.Dec.{ltb}
-use Rattle.search.specs.Parity.{bothParities}
+use Rattle.search.specs.Parity.{bothParities, evenParities}
 use Rattle.search.specs.Block.{ruleOf}
 use Rattle.nearest.specs.Laws.Forms.{RuleOk}
 
@@ -34,9 +34,9 @@ in-both (suc zero) h = List·Memᴰ·tail (List·Memᴰ·head refl)
 in-both (suc (suc q)) h = absurd (omega arith)
 
 -- ---- the even profile searches parity 0
-pub only-zero : (q : ℕ) → List·Memᴰ q (0 ∷ []) → q ≡ 0
+pub only-zero : (q : ℕ) → List·Memᴰ q evenParities → q ≡ 0
 only-zero q (List·Memᴰ·head e) = e
 only-zero q (List·Memᴰ·tail m) = absurd (List·Memᴰ·not-nil m)
 
-pub even-lt : (q : ℕ) → List·Memᴰ q (0 ∷ []) → q < 2
+pub even-lt : (q : ℕ) → List·Memᴰ q evenParities → q < 2
 even-lt q m = subst (λ (k : ℕ). k < 2) (sym (only-zero q m)) (zero-lt-suc 1)

@@ -50,6 +50,14 @@ some-page text p e h = go (readingOf text) refl e
         }
     go malformed r e = absurd (omega (arith, ap (λ (q : Parsed). q .number) e))
 
+-- either way: the count and the words are the reading's
+pub parsed-words : (R : Reading) (p : Parsed) → p ≡ parsedOf R → (p .count ≡ length (wordsIn R)) × (take (p .count) (p .words) ≡ wordsIn R)
+unfolding parsedOf wordsIn
+parsed-words (page num words) p e =
+    let k : p .count ≡ length words = ap (λ (q : Parsed). q .count) e in (k, rw (k, ap (λ (q : Parsed). q .words) e) (take-append-seam words _))
+parsed-words malformed p e =
+    let k : p .count ≡ 0 = ap (λ (q : Parsed). q .count) e in (k, rw k)
+
 -- ---- a reading's counts: 24 a word, and at most 64 words
 pub counts-length : (R : Reading) → length (countsIn R) ≡ 24 * length (wordsIn R)
 unfolding wordsIn countsIn
