@@ -13,7 +13,7 @@ set -euo pipefail
 help_if_asked "$@"
 no_arguments "$@"
 
-most=77997       # bytes that the library took when they were last recorded
+most=79555       # bytes that the library took when they were last recorded
 table=10000      # bytes of code of one function that only a table of all rows explains
 holds=rows::look # the function that has one
 

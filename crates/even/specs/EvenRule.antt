@@ -4,13 +4,13 @@ use mathlib.Core.Path.{_≡_, refl, ap, sym, subst, _∙_}
 use mathlib.Core.Logic.{_⊎_, inl, inr, _↔_}
 use mathlib.Core.Bool.{Bool, true, false, cond}
 use mathlib.Core.List.{List}
-use Prim.Native.Nat.{ℕ, _*_, _%_, _^_, _<_, _≤_}
+use Prim.Native.Nat.{ℕ, _*_, _%_, _^_, _<_}
 use native.Mathlib.Nat.{zero-lt-suc}
 use native.Mathlib.Omega.{arith}
 use borrow.Author.Tests.{eq-eqb, ne-eqb}
 use lib.Dec.{T}
 use lib.IntN.{ℤ, pos}
-use lib.ListN.{length, getD}
+use lib.ListN.{length}
 use Rattle.laws.specs.Words.{tab}
 use Rattle.laws.specs.Laws.Tests.{true-is}
 use Rattle.refusal.specs.Refusal.{allOdd}
@@ -29,7 +29,6 @@ use Rattle.page.specs.PageRule.{accepted, on-no-page, on-short-buffer, one-read
 use Rattle.even.specs.Even.{wordNumber, evenDecoded, evenEncoded, anyOdd, evenRead, evenCells}
 use Rattle.even.specs.Laws.Word.{number-zero, number-odd}
 use Rattle.even.specs.Laws.Page.{AllEven, SomeOdd, none-odd, some-odd, all-even}
-use Rattle.even.specs.declared.Decoded.{Decoded}
 
 -- ---- words
 -- the number is 0 just where the word's point is even, and 13 just where it is odd

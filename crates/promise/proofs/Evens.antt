@@ -1,10 +1,10 @@
 -- The demands of what the calls of the even profile answer, from the theorems of even and demands. Assumes nothing.
-use mathlib.Core.Path.{_≡_, refl, sym, ap, subst, _∙_}
-use mathlib.Core.List.{List, _++_}
-use Prim.Native.Nat.{ℕ, _%_, _^_, _<_}
+use mathlib.Core.Path.{_≡_, sym, ap, subst, _∙_}
+use mathlib.Core.List.{List}
+use Prim.Native.Nat.{ℕ, _^_, _<_}
 use lib.Dec.{T}
-use lib.IntN.{ℤ, pos}
-use lib.ListN.{length, getD, replicate}
+use lib.IntN.{ℤ}
+use lib.ListN.{length, getD}
 use lib.Ieee.{Float, binary64, fits}
 use Rattle.laws.specs.Words.{tab}
 use Rattle.tetra.specs.Lattice.{HasWord}

@@ -1,5 +1,5 @@
 -- What a call that reads a page answers and leaves, and what `page::parse` answers, as `yultarvas_parse_page` hands it on. Assumes nothing.
-use mathlib.Core.Path.{_≡_, refl, ap, sym, _∙_}
+use mathlib.Core.Path.{_≡_, refl, ap, _∙_}
 use mathlib.Core.Bool.{cond}
 use mathlib.Core.List.{List}
 use Prim.Native.Nat.{ℕ, _≤_}

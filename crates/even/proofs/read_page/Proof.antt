@@ -5,8 +5,7 @@ use mathlib.Core.List.{List}
 use Prim.Native.Nat.{ℕ, _≤_}
 use native.Mathlib.Omega.{arith}
 use borrow.Author.Needs.{needs}
-use lib.IntN.{ℤ}
-use lib.ListN.{length, take}
+use lib.ListN.{take}
 use Rattle.page.specs.Answer.{wordsIn, parsedOf}
 use Rattle.page.specs.Reader.{readingOf}
 use Rattle.page.specs.Laws.Answer.{parsed-words, few-words}
