@@ -24,7 +24,7 @@
 //! assert_eq!(even::read_page(text, &mut counts), Err(Refused::AllOdd));
 //! assert_eq!(counts, [7; PAGE_COUNTS]); // one odd word, and nothing of the page is read
 //! ```
-use crate::{raw, word_or_why, Code, Refused, BLOCK, EMPTY};
+use crate::{coded, raw, word_or_why, Code, Refused, BLOCK};
 
 /// Whether the profile has a word: its p is 0. No other bit counts. Refused with [`Refused::AllOdd`].
 pub fn check(word: u64) -> Result<(), Refused> {
@@ -51,32 +51,27 @@ pub fn encode_point(point: &[i32; BLOCK]) -> Result<u64, Refused> {
 /// The code of samples over the even points, at the scale that the samples give. Samples that are all zero
 /// have word 0 and the score minus infinity. Refused with [`Refused::NotFinite`], else [`Refused::TooLarge`].
 pub fn encode(samples: &[f64; BLOCK]) -> Result<Code, Refused> {
-    let mut c = EMPTY;
-    let (x, y) = (samples.as_ptr(), c.point.as_mut_ptr());
-    let number = unsafe { raw::yultarvas_even_encode(x, BLOCK, &mut c.word, y, BLOCK, &mut c.score) };
-    Refused::unless(number, c)
+    let x = samples.as_ptr();
+    coded(|word, point, score| unsafe { raw::yultarvas_even_encode(x, BLOCK, word, point, BLOCK, score) })
 }
 
 /// The same at a setting, as [`encode_with`](crate::encode_with) takes it. Refused with
 /// [`Refused::BadSetting`], else as [`encode`].
 pub fn encode_with(samples: &[f64; BLOCK], setting: u32) -> Result<Code, Refused> {
-    let mut c = EMPTY;
-    let (x, y) = (samples.as_ptr(), c.point.as_mut_ptr());
-    let number =
-        unsafe { raw::yultarvas_even_encode_with(x, BLOCK, setting, &mut c.word, y, BLOCK, &mut c.score) };
-    Refused::unless(number, c)
+    let x = samples.as_ptr();
+    coded(|word, point, score| unsafe {
+        raw::yultarvas_even_encode_with(x, BLOCK, setting, word, point, BLOCK, score)
+    })
 }
 
 /// The code of samples over the even points, at a scale and a setting. Refused with the first that fits of
 /// [`Refused::BadSetting`], [`Refused::BadScale`], [`Refused::NotFinite`], [`Refused::TooLarge`],
 /// [`Refused::FarQuotient`].
 pub fn encode_at_scale(samples: &[f64; BLOCK], scale: f64, setting: u32) -> Result<Code, Refused> {
-    let mut c = EMPTY;
-    let (x, y) = (samples.as_ptr(), c.point.as_mut_ptr());
-    let number = unsafe {
-        raw::yultarvas_even_encode_at_scale(x, BLOCK, scale, setting, &mut c.word, y, BLOCK, &mut c.score)
-    };
-    Refused::unless(number, c)
+    let x = samples.as_ptr();
+    coded(|word, point, score| unsafe {
+        raw::yultarvas_even_encode_at_scale(x, BLOCK, scale, setting, word, point, BLOCK, score)
+    })
 }
 
 /// The counts of a page that has no odd word into `counts`, as [`read_page`](crate::read_page) gives them,

@@ -150,33 +150,35 @@ fn word_or_why(number: u32, word: u64, point: &[i32; BLOCK]) -> Result<u64, Refu
 /// The code of samples at the scale that they give: what a recorder calls. Samples that are all zero have
 /// word 0 and the score minus infinity. Refused with [`Refused::NotFinite`], else [`Refused::TooLarge`].
 pub fn encode(samples: &[f64; BLOCK]) -> Result<Code, Refused> {
-    let mut c = EMPTY;
-    let (x, y) = (samples.as_ptr(), c.point.as_mut_ptr());
-    let number = unsafe { raw::yultarvas_encode(x, BLOCK, &mut c.word, y, BLOCK, &mut c.score) };
-    Refused::unless(number, c)
+    let x = samples.as_ptr();
+    coded(|word, point, score| unsafe { raw::yultarvas_encode(x, BLOCK, word, point, BLOCK, score) })
 }
 
 /// The code of samples at the scale that they give and at a setting, the number of shrinks that the search
 /// tries; all from 8 up are the same, and [`encode`] uses 8. Refused with [`Refused::BadSetting`], else as
 /// [`encode`].
 pub fn encode_with(samples: &[f64; BLOCK], setting: u32) -> Result<Code, Refused> {
-    let mut c = EMPTY;
-    let (x, y) = (samples.as_ptr(), c.point.as_mut_ptr());
-    let number =
-        unsafe { raw::yultarvas_encode_with(x, BLOCK, setting, &mut c.word, y, BLOCK, &mut c.score) };
-    Refused::unless(number, c)
+    let x = samples.as_ptr();
+    coded(|word, point, score| unsafe {
+        raw::yultarvas_encode_with(x, BLOCK, setting, word, point, BLOCK, score)
+    })
 }
 
 /// The code of samples at a scale and a setting. Refused with the first that fits of
 /// [`Refused::BadSetting`], [`Refused::BadScale`], [`Refused::NotFinite`], [`Refused::TooLarge`],
 /// [`Refused::FarQuotient`].
 pub fn encode_at_scale(samples: &[f64; BLOCK], scale: f64, setting: u32) -> Result<Code, Refused> {
-    let mut c = EMPTY;
-    let (x, y) = (samples.as_ptr(), c.point.as_mut_ptr());
-    let number = unsafe {
-        raw::yultarvas_encode_at_scale(x, BLOCK, scale, setting, &mut c.word, y, BLOCK, &mut c.score)
-    };
-    Refused::unless(number, c)
+    let x = samples.as_ptr();
+    coded(|word, point, score| unsafe {
+        raw::yultarvas_encode_at_scale(x, BLOCK, scale, setting, word, point, BLOCK, score)
+    })
+}
+
+/// The code that a call leaves in the cells that it is lent, or its refusal.
+fn coded(call: impl FnOnce(*mut u64, *mut i32, *mut f64) -> u32) -> Result<Code, Refused> {
+    let mut code = EMPTY;
+    let number = call(&mut code.word, code.point.as_mut_ptr(), &mut code.score);
+    Refused::unless(number, code)
 }
 
 /// The largest magnitude of samples, and the lower of the two scales that [`encode`] tries. Refused as

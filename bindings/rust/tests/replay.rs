@@ -104,12 +104,20 @@ fn answer(line: &str) -> Option<String> {
         ("epoint", 24) => point(rest).map(|y| word(even::encode_point(&y))),
         (name @ ("scale" | "escale"), 26) => {
             let (n, s, x) = (digits(rest[0])?, hex(rest[1])?, samples(&rest[2..])?);
-            let call = if name == "scale" { encode_at_scale } else { even::encode_at_scale };
+            let call = if name == "scale" {
+                encode_at_scale
+            } else {
+                even::encode_at_scale
+            };
             Some(code(call(&x, f64::from_bits(s), setting(n))))
         }
         (name @ ("auto" | "eauto"), 25) => {
             let (n, x) = (digits(rest[0])?, samples(&rest[1..])?);
-            let call = if name == "auto" { encode_with } else { even::encode_with };
+            let call = if name == "auto" {
+                encode_with
+            } else {
+                even::encode_with
+            };
             Some(code(call(&x, setting(n))))
         }
         ("lower", 24) => {

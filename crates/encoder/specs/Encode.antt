@@ -88,10 +88,14 @@ numberOf x n = settingFirst n (sampleNumber x)
 unfoldable pub encodeOver : List ℕ → List Float → ℕ → Code
 encodeOver ps x n = answered (numberOf x n) (codeAt ps (choiceOf x) x n)
 
--- the production call with a setting, over both,
+-- and the production call with a setting, over both
 abbrev pub encodeWith : List Float → ℕ → Code
 encodeWith x n = encodeOver bothParities x n
 
--- and `encode`: a call that names no setting uses 8
+-- ---- with no setting: it is 8
+abbrev pub encodeSamplesOver : List ℕ → List Float → Code
+encodeSamplesOver ps x = encodeOver ps x 8
+
+-- and `encode`, over both
 abbrev pub encodeSamples : List Float → Code
-encodeSamples x = encodeWith x 8
+encodeSamples x = encodeSamplesOver bothParities x

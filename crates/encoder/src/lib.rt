@@ -25,8 +25,8 @@ pub struct Code {
     pub score: f64,
 }
 
-// A call that names no setting of the shrinks uses this one.
-const SETTING: u32 = 8;
+// A call that names no setting of the shrinks uses this one; in the even profile too.
+pub const SETTING: u32 = 8;
 
 // ---- in: the targets of the three sections
 // From natural order to trio order.

@@ -10,7 +10,7 @@ ghost use Prim.Native.Nat.{_≤_};
 ghost use lib.ListN.{length, take};
 ghost use Rattle.page.specs.Reader.{readingOf};
 ghost use Rattle.search.specs.Parity.{evenParities};
-ghost use Rattle.encoder.specs.Encode.{encodeAtOver, encodeOver};
+ghost use Rattle.encoder.specs.Encode.{encodeAtOver, encodeOver, encodeSamplesOver};
 ghost use Rattle.even.specs.Even.{wordNumber, evenDecoded, evenEncoded, anyOdd, evenRead, evenCells};
 
 // What `decode` answers: number 0 and the point of the word; or number 13 and 24 zeros.
@@ -18,9 +18,6 @@ pub struct Decoded {
     pub number: u32,
     pub point: [i32; 24],
 }
-
-// A call that names no setting of the shrinks uses this one.
-const SETTING: u32 = 8;
 
 // ---- words
 // The number of a word: 0, or 13 where its p, bit 0, is 1. No other bit counts.
@@ -83,9 +80,9 @@ pub fn encode_with(samples: [f64; 24], setting: u32) -> Code
 
 // The production call: at the scale that the samples give.
 pub fn encode(samples: [f64; 24]) -> Code
-    ensures { λ r. ⌜ r ≡ encodeOver evenParities samples 8 ⌝ }
+    ensures { λ r. ⌜ r ≡ encodeSamplesOver evenParities samples ⌝ }
 {
-    encode_with(samples, SETTING)
+    encode_with(samples, encoder::SETTING)
 }
 
 // ---- pages

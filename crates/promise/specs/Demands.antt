@@ -35,8 +35,9 @@
 --   rows that begin with a summary             `Agrees`, `Kept`                       summary/specs/SummaryRule
 --   what the cells of a row say                `RowIs`                                summary/specs/SummaryRule
 --   all 24 coordinates are even                `Even`                                 demands/specs/Promised
---   the Rust's answers over the even points    `encodeAtOver`, `encodeOver`,          encoder/specs/Encode,
---                                              `evenParities`                         search/specs/Parity
+--   the Rust's answers over the even points    `encodeAtOver`, `encodeOver`,          encoder/specs/Encode
+--                                              `encodeSamplesOver`
+--   the parities that they search              `evenParities`                         search/specs/Parity
 -- The structs of the answers (`Encoded`, `Code`, ..) stand in src/ of their crates.
 use mathlib.Core.Path.{_≡_}
 use mathlib.Core.Bool.{true, false}

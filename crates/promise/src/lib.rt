@@ -9,7 +9,8 @@ ghost use Rattle.score.specs.Samples.{sampleNumber};
 ghost use Rattle.score.specs.Score.{tOf};
 ghost use Rattle.score.specs.Scale.{lowerScale};
 ghost use Rattle.search.specs.Parity.{evenParities};
-ghost use Rattle.encoder.specs.Encode.{numberAt, numberOf, encodeAtScale, encodeWith, encodeSamples, encodeAtOver, encodeOver};
+ghost use Rattle.encoder.specs.Encode.{numberAt, numberOf, encodeAtScale, encodeWith, encodeSamples};
+ghost use Rattle.encoder.specs.Encode.{encodeAtOver, encodeOver, encodeSamplesOver};
 ghost use Rattle.even.specs.Even.{evenDecoded, evenEncoded};
 ghost use Rattle.promise.specs.Demands.{PointOfWord, BackToWord};
 ghost use Rattle.promise.specs.Demands.{RefusesOthers, AcceptsMembers, KeepsPoint, RefusesByFour, SaysWhy};
@@ -325,7 +326,7 @@ pub fn even_with_setting(samples: [f64; 24], setting: u32) -> EvenFromSamples
 // Its `encode`, in the same way: it names no setting.
 pub fn even_at_own_scale(samples: [f64; 24]) -> EvenFromSamples
     ensures { λ r. ⌜ Numbered (sampleNumber samples) (r .code) ⌝ }
-    ensures { λ r. ⌜ r .code ≡ encodeOver evenParities samples 8 ⌝ }
+    ensures { λ r. ⌜ r .code ≡ encodeSamplesOver evenParities samples ⌝ }
     ensures { λ r. ⌜ KeepsEvenCode (r .code) (r .decoded) (r .encoded) ⌝ }
 {
     with_even_back(even::encode(samples))

@@ -9,7 +9,7 @@ use Rattle.tetra.specs.Tetra.{pointOf}
 use Rattle.tetra.specs.declared.Encoded.{Encoded}
 use Rattle.search.specs.Parity.{evenParities}
 use Rattle.encoder.specs.declared.Code.{Code}
-use Rattle.encoder.specs.Encode.{encodeAtOver, encodeOver}
+use Rattle.encoder.specs.Encode.{encodeAtOver, encodeOver, encodeSamplesOver}
 use Rattle.page.specs.Reader.{readingOf}
 use Rattle.even.specs.Even.{wordNumber, evenEncoded, evenRead, evenCells}
 use Rattle.yultarvas.specs.Calls.{short, roomFirst, left, atFront}
@@ -39,7 +39,7 @@ abbrev pub evenAtSetting : List Float → ℕ → Code
 evenAtSetting x n = encodeOver evenParities (take 24 x) n
 
 abbrev pub evenAtOwnScale : List Float → Code
-evenAtOwnScale x = encodeOver evenParities (take 24 x) 8
+evenAtOwnScale x = encodeSamplesOver evenParities (take 24 x)
 
 -- ---- a page's text to its counts, into a slice that held `old`: 9, then 13, then 8
 abbrev pub evenPageNumber : List ℕ → List ℤ → ℕ

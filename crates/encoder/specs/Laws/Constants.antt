@@ -31,6 +31,7 @@ use Rattle.encoder.specs.Encode.{
   codeAt,
   encodeOver,
   encodeWith,
+  encodeSamplesOver,
   encodeSamples,
 }
 
@@ -51,11 +52,14 @@ module _ (ps : List ℕ) (n : ℕ) (h : 8 ≤ n) where
   at-choice (Scale s) x = at-two x s
   at-choice (Divide m s) x = ap (scaledBack m) (at-two (quotientsOf x m) s)
 
-pub no-setting-is-all : (n : ℕ) → 8 ≤ n → (x : List Float) → encodeSamples x ≡ encodeWith x n
+pub no-setting-over : (ps : List ℕ) (n : ℕ) → 8 ≤ n → (x : List Float) → encodeSamplesOver ps x ≡ encodeOver ps x n
 unfolding encodeOver
-no-setting-is-all n h x =
+no-setting-over ps n h x =
     rw (ne-eqb n 0 (λ e. omega arith))
-    (ap (answered (sampleNumber x)) (sym (at-choice bothParities n h (choiceOf x) x)))
+    (ap (answered (sampleNumber x)) (sym (at-choice ps n h (choiceOf x) x)))
+
+pub no-setting-is-all : (n : ℕ) → 8 ≤ n → (x : List Float) → encodeSamples x ≡ encodeWith x n
+no-setting-is-all = no-setting-over bothParities
 
 -- ---- the empty code is word 0, 24 zeros, score +0.0, whose bits are all 0
 pub empty-is : (n : ℕ)
