@@ -10,7 +10,8 @@ fn file(path: &str) -> String {
     fs::read_to_string(&full).unwrap_or_else(|e| panic!("{full}: {e}"))
 }
 
-// ---- request lines, as crates/answers/src/lib.rt and crates/even_answers/src/lib.rt have them. `None` where a line is no request; one of 1,024 bytes is none.
+// ---- request lines, as crates/answers/src/lib.rt and crates/even_answers/src/lib.rt have them. `None` where a line is no request; one of
+// 1,024 bytes is none.
 
 fn digits(s: &str) -> Option<u64> {
     if s.bytes().all(|b| b.is_ascii_digit()) {
