@@ -90,7 +90,7 @@ fn values<T: Copy + Default>(listed: &[(T, usize)]) -> [T; 24] {
     y
 }
 
-// ---- the examples, by their numbers in the request's sheet
+// ---- the request's examples, by their numbers
 
 #[test]
 fn examples_words() {
