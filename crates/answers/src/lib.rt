@@ -13,6 +13,8 @@
 //
 // Crate even_answers adds the requests of the even profile and answers them by the same lines, so `refused`, `point_line` and `word_line` are
 // public. Its requests of samples are `scale` and `auto` over fewer points: so these are public too, and are told whether odd points are searched.
+#![tactic(auto)]
+
 ghost use Rattle.std.specs.Prelude.{◌≡◌, ◌≤◌};
 ghost use Rattle.text.specs.Text.{refused_text};
 ghost use Rattle.search.specs.Parity.{parities_of};
@@ -29,7 +31,7 @@ use tetra::Encoded;
 use text::{put, put_decimal, put_double, put_hex, put_line, put_list};
 
 // A line of at most 336 bytes: how many there are, its LF included, and the bytes, with zeros behind them.
-#[derive(Drop)]
+#[derive(Clone, Copy)]
 pub struct Reply {
     pub length: usize,
     pub bytes: [u8; 336],

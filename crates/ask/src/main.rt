@@ -7,6 +7,8 @@
 // A program of this language has no exit status. So a read or a write that fails is said on standard error,
 // and from then on nothing is answered: what was written is a beginning of the right answers, whose last line
 // may be cut.
+#![tactic(auto)]
+
 ghost use Rattle.std.specs.Prelude.{◌≤◌};
 
 use answers::Reply;
@@ -15,7 +17,7 @@ use text::put;
 
 // What is held from byte to byte: so many bytes of a line, and so many of answers; and whether each write
 // went well.
-#[derive(Drop)]
+#[derive(Clone, Copy)]
 struct Held {
     line: usize,
     out: usize,
@@ -23,7 +25,7 @@ struct Held {
 }
 
 // How a read went: whether to go on, and how many bytes of a line are held.
-#[derive(Drop)]
+#[derive(Clone, Copy)]
 struct Turn {
     more: bool,
     line: usize,

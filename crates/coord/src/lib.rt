@@ -2,6 +2,8 @@
 // The idea: all that the search asks of a coordinate is worked out once per section and parity, for 8
 // shrinks, 8 coordinates and 2 pattern bits. The records are then laid out field by field as flat rows, which
 // the crates above read in place.
+#![tactic(auto)]
+
 ghost use Rattle.std.specs.Prelude.{◌≡◌, cond, ◌<◌, ◌≤◌, ◌+◌, ◌%◌, pos, negsuc, nat_abs, get_or, ltb};
 ghost use Rattle.std.specs.Int.Signed.{lt_z};
 ghost use Rattle.std.specs.Float.{nan};
@@ -18,7 +20,7 @@ use search::Coord;
 const SHRINKS: [f64; search::SHRINKS] = [1.0, 0.85, 0.7, 0.55, 0.4, 0.25, 0.1, 0.0];
 
 // The member o + 4k of one k: its rank mark, its weight, its squared distance to the target.
-#[derive(Drop)]
+#[derive(Clone, Copy)]
 struct Slot {
     rank: u8,
     w: u16,
@@ -26,7 +28,7 @@ struct Slot {
 }
 
 // The records of a section as flat rows.
-#[derive(Drop)]
+#[derive(Clone, Copy)]
 pub struct Rows {
     pub regret: [f64; 128],
     pub dist: [f64; 640],

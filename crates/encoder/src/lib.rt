@@ -2,6 +2,8 @@
 // The idea: samples are divided by a scale, the point is searched for at the quotients (crate parity), and
 // the code is that point, its word and its score. Refusals are tested before anything is searched. `encode`
 // works out the scale itself, tries it and 1.14 times it, and keeps the code that scores higher.
+#![tactic(auto)]
+
 ghost use Rattle.std.specs.Prelude.{◌≡◌, ◌+◌, ◌<◌, ◌≤◌, ℕ, get_or};
 ghost use Rattle.std.specs.Float.{nan};
 ghost use Rattle.laws.specs.Words.{tab};
@@ -18,7 +20,7 @@ use search::Winner;
 
 // A block's code: its word (gain 0), the point in natural order, and the score. The number is 0; where it is not, the call was refused, and
 // the rest is word 0, 24 zeros, score +0.0.
-#[derive(Drop)]
+#[derive(Clone, Copy)]
 pub struct Code {
     pub number: u32,
     pub word: u64,

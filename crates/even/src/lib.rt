@@ -2,6 +2,8 @@
 // The idea: a word or a point that the profile knows is answered as the full coder answers it, and an odd one
 // is refused with 13. Samples are searched over even points alone (crate encoder, with `odd` false). A page is
 // read where none of its words is odd.
+#![tactic(auto)]
+
 ghost use Rattle.std.specs.Prelude.{◌≡◌, ◌≤◌, length, take};
 ghost use Rattle.page.specs.Reader.{reading_of};
 ghost use Rattle.search.specs.Parity.{even_parities};
@@ -13,7 +15,7 @@ use page::PageRead;
 use tetra::Encoded;
 
 // What `decode` answers: number 0 and the point of the word; or number 13 and 24 zeros.
-#[derive(Drop)]
+#[derive(Clone, Copy)]
 pub struct Decoded {
     pub number: u32,
     pub point: [i32; 24],

@@ -9,6 +9,8 @@
 // points alone.
 //
 // It is a crate of its own so that the full coder's answers are proved without the profile.
+#![tactic(auto)]
+
 ghost use Rattle.std.specs.Prelude.{◌≡◌, ◌≤◌};
 ghost use Rattle.answers.specs.Answers.{in_line};
 ghost use Rattle.even_answers.specs.EvenAnswers.{decoded_line, even_decode_answer, even_point_answer, even_answer_of};

@@ -1,4 +1,6 @@
 // What the encoder needs of doubles and the language does not have. Every call answers for every double.
+#![tactic(auto)]
+
 ghost use Rattle.std.specs.Prelude.{◌≡◌, ◌≤◌};
 ghost use Rattle.std.specs.Float.Ieee.Scale.{finite};
 ghost use Rattle.float.specs.Calls.{abs_of, clamped, half_up, rounded, quotients_of};

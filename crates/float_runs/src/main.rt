@@ -1,5 +1,7 @@
 // Replays roots and roundings: standard input has a double's bits on each line, 16 lower-case hexadecimal
 // digits, and for each line the program writes the number and the bits of the root, and the rounded number.
+#![tactic(auto)]
+
 use text::{Digit, double_of, hex, magnitude};
 
 // A line: 16 digits and the line feed.

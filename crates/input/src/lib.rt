@@ -1,11 +1,13 @@
 // Standard input, read whole into a lent buffer. What a read answers is the host's to say, so no contract can
 // say what is read: this one says that the count is within the buffer.
+#![tactic(auto)]
+
 ghost use Rattle.io.specs.Counts.{IsPrefixLen};
 
 use libc::STDIN_FILENO;
 
 // How many bytes were read, and whether each read went well.
-#[derive(Drop)]
+#[derive(Clone, Copy)]
 pub struct Input {
     pub good: bool,
     pub length: usize,

@@ -1,6 +1,8 @@
 // The best path by the entries' values, and the best path through each entry: `join` and the pass over the paths of `solve_parity` of
 // encoder.rs. The inner functions read the entries' values from flat rows, and the states that the branches lead to by reference. Each of them
 // says what it computes of any entries that have these values.
+#![tactic(auto)]
+
 ghost use Rattle.std.specs.Prelude.{◌≡◌, cond, ◌&&◌, ◌<◌, ◌+◌, ◌*◌, ◌%◌, get_or};
 ghost use Rattle.std.specs.Float.Ieee.{lt, le};
 ghost use Rattle.trellis.specs.Tables.{nexts};
@@ -46,7 +48,7 @@ fn last_at(p: usize, nx: &[u8; 128], i1: usize, t: usize) -> usize
 
 // ---- the entries' fields as flat rows
 // The values v of the entries of the three sections, and whether each is exact, x.
-#[derive(Drop)]
+#[derive(Clone, Copy)]
 struct Fields {
     v1: [f64; 128],
     v2: [f64; 256],

@@ -1,4 +1,6 @@
 // The listing of the cheap rank vectors: `under_cap` of rank.rs, and the public call, which lists into a buffer that the caller lends.
+#![tactic(auto)]
+
 ghost use Rattle.std.specs.Prelude.{◌≡◌, ◌+◌, ◌*◌, ◌-◌, ◌^◌, ◌<◌, ◌≤◌, length};
 ghost use Rattle.std.proofs.lemmas.List.Edits.{sets};
 ghost use Rattle.rank.specs.Vector.{sq};
@@ -12,7 +14,7 @@ const COST_CAP: u32 = 128;
 const CELLS: usize = 14674;
 
 // What `list` answers: number 0 and how many cells it filled, or number 8 and none.
-#[derive(Drop)]
+#[derive(Clone, Copy)]
 pub struct Listed {
     pub number: u32,
     pub count: usize,

@@ -1,4 +1,6 @@
 // What the program mkpage prints of a text: the page of the trace that it is, or the lines of a refusal.
+#![tactic(auto)]
+
 ghost use Rattle.std.specs.Prelude.{◌≡◌, ◌≤◌, length};
 ghost use Rattle.std.proofs.lemmas.List.Edits.{sets};
 ghost use Rattle.trace.specs.Reader.{trace_in};
@@ -9,7 +11,7 @@ use text::put_line;
 
 // A text of at most 1,189 bytes, as many as the longest page has: how many there are, and the bytes, with
 // zeros behind them.
-#[derive(Drop)]
+#[derive(Clone, Copy)]
 pub struct Made {
     pub length: usize,
     pub bytes: [u8; 1189],

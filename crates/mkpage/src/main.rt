@@ -3,6 +3,8 @@
 //
 // A program of this language has no exit status. So a read or a write that fails is said on standard error:
 // after a read nothing is printed, after a write nothing more is.
+#![tactic(auto)]
+
 ghost use Rattle.std.specs.Prelude.{◌≤◌};
 
 use libc::{STDERR_FILENO, STDOUT_FILENO};

@@ -1,4 +1,6 @@
 // The trace page: a text of words in, counts out; and words in, their text out.
+#![tactic(auto)]
+
 mod count;
 mod forming;
 mod line;
@@ -12,7 +14,7 @@ use refusal::{NO_PAGE, NO_ROOM, NO_SCALE};
 use text::{Line, decimal_line, put};
 
 // What a text says: number 0, num, how many words it has, and the words, with zeros behind them; or number 9 and zeros.
-#[derive(Drop)]
+#[derive(Clone, Copy)]
 pub struct Parsed {
     pub number: u32,
     pub num: u32,
@@ -21,14 +23,14 @@ pub struct Parsed {
 }
 
 // What `read` answers: number 0 and how many blocks it wrote; or the number of the refusal and 0.
-#[derive(Drop)]
+#[derive(Clone, Copy)]
 pub struct PageRead {
     pub number: u32,
     pub count: usize,
 }
 
 // What `form` answers: number 0 and the length of the text; or the number of the refusal and 0.
-#[derive(Drop)]
+#[derive(Clone, Copy)]
 pub struct Formed {
     pub number: u32,
     pub length: usize,

@@ -1,5 +1,7 @@
 // Puts each text of standard input to the page reader. Texts stand one behind another, with a % between two. For each it prints what
 // `read` answers with a buffer of 24 cells, what the reader of the even profile does, and then what unpage would print.
+#![tactic(auto)]
+
 ghost use Rattle.std.specs.Prelude.{◌≤◌, length};
 
 use libc::{STDIN_FILENO, STDOUT_FILENO};

@@ -5,6 +5,8 @@
 // one pass over all paths says which entries may lie on a cheaper one, and only those are resolved; then the
 // last join. Parity 1 has to beat the cost that parity 0 has found. docs/ALGORITHM.md says why nothing is
 // lost.
+#![tactic(auto)]
+
 ghost use Rattle.std.specs.Prelude.{◌≡◌, cond, ℕ, ◌%◌, get_or};
 ghost use Rattle.laws.specs.Words.{tab};
 ghost use Rattle.trellis.specs.Tables.{prefixes, suffixes};
@@ -20,7 +22,7 @@ ghost use Rattle.parity.specs.Inner.{head_of, pass_of, mid_starts, last_start};
 use search::{Entry, Winner};
 
 // The best path of a join, and whether all three of its entries are exact.
-#[derive(Drop)]
+#[derive(Clone, Copy)]
 struct Head {
     cost: f64,
     i1: usize,

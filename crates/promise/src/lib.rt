@@ -2,6 +2,8 @@
 // it the calls back with the answer, and ensures what is demanded of all those answers, in the words of
 // specs/Demands. None has a `requires`: what stands here holds for every input. That a call ends is part of
 // its proof.
+#![tactic(auto)]
+
 ghost use Rattle.std.specs.Prelude.{◌≡◌};
 ghost use Rattle.tetra.specs.Tetra.{point_of};
 ghost use Rattle.tetra.specs.Encode.{encode_of};
@@ -40,21 +42,21 @@ use tetra::Encoded;
 use writer::Written;
 
 // A word's point, and what the point encodes to.
-#[derive(Drop)]
+#[derive(Clone, Copy)]
 pub struct FromWord {
     pub point: [i32; 24],
     pub back: Encoded,
 }
 
 // A point's word, and what the word decodes to.
-#[derive(Drop)]
+#[derive(Clone, Copy)]
 pub struct FromPoint {
     pub coded: Encoded,
     pub back: [i32; 24],
 }
 
 // The code of samples, what its word decodes to, and what its point encodes to.
-#[derive(Drop)]
+#[derive(Clone, Copy)]
 pub struct FromSamples {
     pub code: Code,
     pub decoded: [i32; 24],
@@ -62,7 +64,7 @@ pub struct FromSamples {
 }
 
 // A word's number in the even profile, its point, and what the point encodes to.
-#[derive(Drop)]
+#[derive(Clone, Copy)]
 pub struct EvenFromWord {
     pub number: u32,
     pub decoded: Decoded,
@@ -70,7 +72,7 @@ pub struct EvenFromWord {
 }
 
 // A point's word in the profile, the full coder's answer, and what the profile's word decodes to.
-#[derive(Drop)]
+#[derive(Clone, Copy)]
 pub struct EvenFromPoint {
     pub coded: Encoded,
     pub full: Encoded,
@@ -78,7 +80,7 @@ pub struct EvenFromPoint {
 }
 
 // The profile's code of samples, what its word decodes to, and what its point encodes to.
-#[derive(Drop)]
+#[derive(Clone, Copy)]
 pub struct EvenFromSamples {
     pub code: Code,
     pub decoded: Decoded,
@@ -86,7 +88,7 @@ pub struct EvenFromSamples {
 }
 
 // The profile's code of samples, and the full coder's.
-#[derive(Drop)]
+#[derive(Clone, Copy)]
 pub struct EvenAndFull {
     pub even: Code,
     pub full: Code,

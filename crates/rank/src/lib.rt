@@ -1,4 +1,6 @@
 // Coordinates and rank vectors: the members of o + 4Z by rank, and back; class, cost and packing of a section's eight ranks; closed bounds.
+#![tactic(auto)]
+
 ghost use Rattle.std.specs.Prelude.{◌≡◌, true, ◌<◌};
 ghost use Rattle.laws.specs.Words.{lex_le};
 ghost use Rattle.laws.specs.Words.{mod_z};
@@ -17,13 +19,13 @@ pub const NO_RANK: u32 = 15;
 // A packed rank has four bits: cost and contains take the ranks below this.
 const FOUR_BITS: u32 = 16;
 
-#[derive(Drop)]
+#[derive(Clone, Copy)]
 pub struct Valued {
     pub number: u32,
     pub value: i32,
 }
 
-#[derive(Drop)]
+#[derive(Clone, Copy)]
 pub enum Ranked {
     Rank(u32),
     Nothing,
@@ -114,19 +116,19 @@ pub fn mark(y: i32) -> u32
     }
 }
 
-#[derive(Drop)]
+#[derive(Clone, Copy)]
 pub struct Classed {
     pub number: u32,
     pub class: u32,
 }
 
-#[derive(Drop)]
+#[derive(Clone, Copy)]
 pub struct Costed {
     pub number: u32,
     pub cost: u32,
 }
 
-#[derive(Drop)]
+#[derive(Clone, Copy)]
 pub struct Held {
     pub number: u32,
     pub held: bool,
@@ -246,7 +248,7 @@ fn lex_le(a: [u32; 8], b: [u32; 8]) -> bool
 }
 
 // All rank vectors that cost less than `cost`, and those that cost as much up to `cut`, the cut included.
-#[derive(Drop)]
+#[derive(Clone, Copy)]
 pub struct Bound {
     pub cost: u32,
     pub cut: [u32; 8],

@@ -1,4 +1,6 @@
 // Prints what the functions of rank and rows answer on document 01's examples and at the edges of what they take.
+#![tactic(auto)]
+
 use rank::{Bound, Ranked};
 use rows::Seated;
 

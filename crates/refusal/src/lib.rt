@@ -1,5 +1,7 @@
 // The numbers by which a call refuses bad input, each with its name: the list of document 01 and, from 10 on, of document 02. Every crate that refuses takes them from here, so
 // that a number stands in one place of the code and, in specs/Refusal, in one place of the definitions. A call that is accepted carries 0.
+#![tactic(auto)]
+
 ghost use Rattle.std.specs.Prelude.{◌≡◌};
 ghost use Rattle.refusal.specs.Refusal.{numbers};
 

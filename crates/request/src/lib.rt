@@ -1,6 +1,8 @@
 // The words of a request line, and its rows of 24 words. A place is an index into the line. An argument is one
 // space and a word: its reader starts at the space, and answers the value with the place after the word. A row is
 // 24 arguments. No call has a `requires`.
+#![tactic(auto)]
+
 ghost use Rattle.std.specs.Prelude.{◌≡◌, cond, length, drop};
 ghost use Rattle.request.specs.Words.{lowered, digit_in, more_of, counted_of, number_from};
 ghost use Rattle.request.specs.Words.{after_name, hex_after, decimal_after, double_after};
@@ -10,28 +12,28 @@ ghost use Rattle.request.specs.Rows.{no_samples, samples_after, no_point, point_
 use text::{Digit, byte_at, digit_of, double_of, starts};
 
 // A number and the place after it, or that none stands there.
-#[derive(Drop)]
+#[derive(Clone, Copy)]
 pub enum Number {
     Read(u64, usize),
     Bad,
 }
 
 // A double, likewise.
-#[derive(Drop)]
+#[derive(Clone, Copy)]
 pub enum Double {
     Read(f64, usize),
     Bad,
 }
 
 // A number with its sign, likewise.
-#[derive(Drop)]
+#[derive(Clone, Copy)]
 pub enum Signed {
     Read(i32, usize),
     Bad,
 }
 
 // 24 samples and the place after them, or that they do not stand there: then the place is 0, and each sample too.
-#[derive(Drop)]
+#[derive(Clone, Copy)]
 pub struct Samples {
     pub good: bool,
     pub next: usize,
@@ -39,7 +41,7 @@ pub struct Samples {
 }
 
 // 24 coordinates, likewise.
-#[derive(Drop)]
+#[derive(Clone, Copy)]
 pub struct Point {
     pub good: bool,
     pub next: usize,

@@ -1,5 +1,7 @@
 // The entries of the join: as they start (`ends`, `mids`) and resolved in full (`end_resolve` and `mid_resolve` of the Rust's
 // encoder.rs, and the calls that resolve one entry or all that a bound leaves), over the flat rows of a section.
+#![tactic(auto)]
+
 ghost use Rattle.std.specs.Prelude.{◌≡◌, ◌<◌};
 ghost use Rattle.std.specs.Float.Ieee.{lt};
 ghost use Rattle.laws.specs.Words.{tab};

@@ -1,24 +1,26 @@
 // The correctly rounded root of a double, from its bits and integer squares.
+#![tactic(auto)]
+
 ghost use Rattle.std.specs.Prelude.{◌≡◌, ◌*◌, ◌^◌, ◌≤◌, ◌<◌};
 ghost use Rattle.root.specs.Root.{NearestRoot, rooted};
 ghost use Rattle.root.specs.Inner.{Above, Apart, Even, Raised, IsRoot, Step, Picked};
 
 // The number is 0, or 7 with the root +0.0.
-#[derive(Drop)]
+#[derive(Clone, Copy)]
 pub struct Rooted {
     pub number: u32,
     pub root: f64,
 }
 
 // x is m * 2^k units.
-#[derive(Drop)]
+#[derive(Clone, Copy)]
 struct Parts {
     m: u64,
     k: u64,
 }
 
 // A whole root, and what is left.
-#[derive(Drop)]
+#[derive(Clone, Copy)]
 struct Digits {
     root: u64,
     rem: u64,

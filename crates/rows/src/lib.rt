@@ -1,4 +1,6 @@
 // The table of 4,096 rank vectors, and the lookups in it.
+#![tactic(auto)]
+
 mod tables;
 
 ghost use Rattle.std.specs.Prelude.{◌≡◌, cond, ℕ, ◌%◌, ◌<◌, get_or};
@@ -21,7 +23,7 @@ pub const CLASS_ROWS: u32 = 2048;
 pub const N0_MIXED: u32 = 1240;
 
 // Where a rank vector stands: a class and an index, or nowhere.
-#[derive(Drop)]
+#[derive(Clone, Copy)]
 pub enum Seated {
     At { class: u32, index: u16 },
     Nothing,

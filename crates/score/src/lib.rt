@@ -1,5 +1,7 @@
 // The score of a point and the scale that samples give: `t_of`, `lower_scale` and the head of `encode` of the Rust's encoder.rs, which here is a
 // call of its own, `choose`; with the refusals of document 01 for samples and scales, and those for a choice. Every call answers for every input.
+#![tactic(auto)]
+
 ghost use Rattle.std.specs.Prelude.{◌≡◌, cond};
 ghost use Rattle.refusal.specs.Refusal.{no_scale};
 ghost use Rattle.float.specs.Calls.{abs_of};
@@ -9,14 +11,14 @@ ghost use Rattle.score.specs.Scale.{larger, largest_of, unit_norm, scale_with, i
 ghost use Rattle.score.specs.Choice.{chosen, nonzero, is_pair, is_division, pair_number, number_for, choice_number};
 
 // A score, with the number 0; or 1 or 2 and +0.0.
-#[derive(Drop)]
+#[derive(Clone, Copy)]
 pub struct Scored {
     pub number: u32,
     pub score: f64,
 }
 
 // The largest magnitude and the lower scale, with the number 0; or 1 or 2 and +0.0 in each.
-#[derive(Drop)]
+#[derive(Clone, Copy)]
 pub struct Scales {
     pub number: u32,
     pub largest: f64,
@@ -24,7 +26,7 @@ pub struct Scales {
 }
 
 // How samples are to be coded: all are zero; at a scale; divided by a magnitude first, and then at a scale.
-#[derive(Drop)]
+#[derive(Clone, Copy)]
 pub enum Choice {
     Zero,
     Scale(f64),
@@ -32,7 +34,7 @@ pub enum Choice {
 }
 
 // The choice that samples give, with the number 0; or 1 or 2 and the all-zero choice.
-#[derive(Drop)]
+#[derive(Clone, Copy)]
 pub struct Chosen {
     pub number: u32,
     pub choice: Choice,

@@ -1,5 +1,7 @@
 // What the search at one scale computes with. The search itself is defined in specs/, function by function of the Rust's encoder.rs; the
 // crates above hold code that is proved to compute it.
+#![tactic(auto)]
+
 ghost use Rattle.std.specs.Prelude.{◌≡◌};
 ghost use Rattle.search.specs.Solve.{infinity};
 
@@ -11,7 +13,7 @@ pub const END_SHRINKS: usize = 7;
 // One coordinate under one offset at one shrink: its rounding k0, the side on which its target lies (dir, 1 or -1), how far off the rounding
 // is (regret), and the five values o + 4k for k from k0 - 2 to k0 + 2, each with its rank (15 for none), its weight (2 rank + 1)^2 and its
 // squared distance to the target before the shrink.
-#[derive(Drop)]
+#[derive(Clone, Copy)]
 pub struct Coord {
     pub k0: i32,
     pub dir: i32,
@@ -22,14 +24,14 @@ pub struct Coord {
 }
 
 // A closed bound on packed rows: the cut has coordinate 0 most significant.
-#[derive(Drop)]
+#[derive(Clone, Copy)]
 pub struct Closed {
     pub cost: u32,
     pub cut: u32,
 }
 
 // A candidate for a section: its cost, its packed row, its squared distance.
-#[derive(Drop)]
+#[derive(Clone, Copy)]
 pub struct Candidate {
     pub cost: u32,
     pub key: u32,
@@ -37,7 +39,7 @@ pub struct Candidate {
 }
 
 // The nearest member so far, if one was met.
-#[derive(Drop)]
+#[derive(Clone, Copy)]
 pub struct Best {
     pub d: f64,
     pub key: u32,
@@ -45,21 +47,21 @@ pub struct Best {
 }
 
 // A section search answers a distance with its row, or that no member was met.
-#[derive(Drop)]
+#[derive(Clone, Copy)]
 pub enum Found {
     At(f64, u32),
     Nothing,
 }
 
 // The two least decided coordinates.
-#[derive(Drop)]
+#[derive(Clone, Copy)]
 pub struct Top {
     pub j0: usize,
     pub j1: usize,
 }
 
 // A section as the join sees it: a distance that is exact or a lower bound, and the byte and row of the point when exact.
-#[derive(Drop)]
+#[derive(Clone, Copy)]
 pub struct Entry {
     pub value: f64,
     pub exact: bool,
@@ -68,7 +70,7 @@ pub struct Entry {
 }
 
 // The best path of a join: its cost, and the entries it runs through. The middle one is twice its place plus the middle class.
-#[derive(Drop)]
+#[derive(Clone, Copy)]
 pub struct Way {
     pub cost: f64,
     pub i1: usize,
@@ -77,7 +79,7 @@ pub struct Way {
 }
 
 // The best path through each entry, and the best path whose three entries are exact.
-#[derive(Drop)]
+#[derive(Clone, Copy)]
 pub struct Bounds {
     pub u: f64,
     pub b1: [f64; 128],
@@ -86,7 +88,7 @@ pub struct Bounds {
 }
 
 // The winning path of a block at one scale, where there is one, with its three sections.
-#[derive(Drop)]
+#[derive(Clone, Copy)]
 pub struct Winner {
     pub found: bool,
     pub cost: f64,

@@ -1,4 +1,6 @@
 // What the program unpage prints of a text: two lines for each block of a page, or the line of a refusal.
+#![tactic(auto)]
+
 ghost use Rattle.std.specs.Prelude.{◌≡◌, ◌+◌, ◌*◌, ◌≤◌, length, take, drop};
 ghost use Rattle.std.proofs.lemmas.List.Edits.{sets};
 ghost use Rattle.page.specs.Reader.{reading_of};
@@ -9,7 +11,7 @@ use text::{put, put_line, put_list};
 
 // A text of at most 20,672 bytes, 323 for each of 64 blocks: how many there are, and the bytes, with zeros
 // behind them.
-#[derive(Drop)]
+#[derive(Clone, Copy)]
 pub struct Printed {
     pub length: usize,
     pub bytes: [u8; 20672],

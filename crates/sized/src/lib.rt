@@ -1,5 +1,7 @@
 // What the program sizes prints of a text: the summary of a page, a line for each cell, or the line of a
 // refusal.
+#![tactic(auto)]
+
 ghost use Rattle.std.specs.Prelude.{◌≡◌, ◌+◌, ◌*◌, ◌<◌, ◌≤◌, length, drop};
 ghost use Rattle.std.proofs.lemmas.List.Edits.{sets};
 ghost use Rattle.text.specs.Text.{line, signed};
@@ -12,7 +14,7 @@ use text::{put, put_line, put_signed};
 // A text of at most 5,331 bytes: how many there are, and the bytes, with zeros behind them. The line of the
 // count has at most 10, the four lines of a row at most 73, whatever four i32 it holds, and a block at most
 // 82: its row, and at most 9 in the line of its index.
-#[derive(Drop)]
+#[derive(Clone, Copy)]
 pub struct Printed {
     pub length: usize,
     pub bytes: [u8; 5331],

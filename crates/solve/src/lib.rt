@@ -5,6 +5,8 @@
 // beside it are tried, then the same about targets drawn toward zero. A step changes two terms of a distance
 // that is known, so a try is a few additions and one comparison; only one that is nearer is held against the
 // bound.
+#![tactic(auto)]
+
 ghost use Rattle.std.specs.Prelude.{◌≡◌, cond, ℕ, ◌<◌, ◌≤◌, ◌+◌, ◌*◌, ◌-◌, ◌%◌, ◌^◌, min, get_or, eqb};
 ghost use Rattle.laws.specs.Words.{tab};
 ghost use Rattle.search.specs.Record.{bit_at};
@@ -19,7 +21,7 @@ ghost use Rattle.solve.specs.Inner.{Placed, Apart, Flanked, Covered, Ready};
 use search::{Best, Candidate, Closed, Found, Top};
 
 // One shrink before its steps: the two least decided coordinates, the slot of the first, the base.
-#[derive(Drop)]
+#[derive(Clone, Copy)]
 struct Start {
     top: Top,
     fix: usize,
@@ -27,7 +29,7 @@ struct Start {
 }
 
 // The bases of a pattern for an even and an odd sum of k.
-#[derive(Drop)]
+#[derive(Clone, Copy)]
 pub struct Pair {
     pub even: Best,
     pub odd: Best,

@@ -1,6 +1,8 @@
 // The summary that is kept beside a page, request 2026-04: rows of four cells in a lent buffer, first the
 // page's and then one for each block, so that a list of pages can be shown without decoding their words. Each
 // call reads the text itself and answers for every input.
+#![tactic(auto)]
+
 mod row;
 
 ghost use Rattle.std.specs.Prelude.{◌≡◌, ◌+◌, ◌*◌, ◌≤◌, length, take, drop};
@@ -13,7 +15,7 @@ use refusal::{DISAGREES, NO_PAGE, NO_ROOM};
 
 // What `summarise` and `add` answer: number 0 and how many blocks the rows are of; or the number of the
 // refusal and 0.
-#[derive(Drop)]
+#[derive(Clone, Copy)]
 pub struct Summed {
     pub number: u32,
     pub count: usize,

@@ -1,6 +1,8 @@
 // Puts each text of standard input to the calls of crate summary. Texts stand one behind another, with a %
 // between two. For each it prints a line of what `summarise` answers and leaves, a line of what `check` says
 // of these rows and of damaged ones, and a line for each of six calls of `add`, refused ones among them.
+#![tactic(auto)]
+
 ghost use Rattle.std.specs.Prelude.{◌<◌, ◌≤◌, length};
 
 use libc::{STDIN_FILENO, STDOUT_FILENO};

@@ -1,4 +1,6 @@
 // The tetra code: 48-bit words to points of the Leech lattice, and back.
+#![tactic(auto)]
+
 ghost use Rattle.std.specs.Prelude.{◌≡◌, ◌++◌, ◌+◌, ◌*◌, ◌<◌, T, pos, get_or, take, drop};
 ghost use Rattle.word.specs.Word.{Narrow, word_of};
 ghost use Rattle.rank.specs.Coord.{val_of};
@@ -16,7 +18,7 @@ pub use rows::{class_index, mixed_index, row};
 pub use trellis::{branch, order, prefix, suffix};
 
 // The bytes of a codeword: one for each section.
-#[derive(Drop)]
+#[derive(Clone, Copy)]
 pub struct Bytes {
     pub c1: u8,
     pub c2: u8,
@@ -25,7 +27,7 @@ pub struct Bytes {
 
 // What `encode` answers: number 0 and the word; or the number of the reason why there is none, and word 0. The section, 1 to 3, is the lowest one
 // outside its bound where that is the reason, and else 0.
-#[derive(Drop)]
+#[derive(Clone, Copy)]
 pub struct Encoded {
     pub number: u32,
     pub section: u32,

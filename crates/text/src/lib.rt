@@ -4,6 +4,8 @@
 //
 // No call has a `requires`. A reader answers a value, or that none stands there. A writer puts a piece whole
 // or not at all.
+#![tactic(auto)]
+
 mod double;
 mod line;
 mod list;

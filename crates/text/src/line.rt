@@ -4,14 +4,14 @@ ghost use Rattle.std.specs.Prelude.{◌≡◌, ◌≤◌, get_or};
 ghost use Rattle.text.specs.Lines.{begins, digit_at, hex_at, row_at, decimal_at, keyed_at, decimal_line_at};
 
 // A line's answer: its value and how many bytes it takes, its end included; or no such line.
-#[derive(Drop)]
+#[derive(Clone, Copy)]
 pub enum Line {
     Good(u64, usize),
     Bad,
 }
 
 // What a digit stands for, or what a row of digits does.
-#[derive(Drop)]
+#[derive(Clone, Copy)]
 pub enum Digit {
     Value(u64),
     Other,

@@ -6,7 +6,7 @@ ghost use Rattle.text.specs.Rows.{below_at, signed_at, end_before, no_list, numb
 use crate::line::{Line, decimal, keyed, starts};
 
 // A number and how many bytes it takes, the byte behind it included; or no such number.
-#[derive(Drop)]
+#[derive(Clone, Copy)]
 pub(crate) enum Signed {
     Read(i32, usize),
     Bad,
@@ -14,7 +14,7 @@ pub(crate) enum Signed {
 
 // A line's answer: whether it stands there, how many bytes it takes, its end included, and its numbers. Where
 // it does not, all of them are 0.
-#[derive(Drop)]
+#[derive(Clone, Copy)]
 pub struct ListLine {
     pub good: bool,
     pub length: usize,

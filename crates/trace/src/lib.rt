@@ -3,6 +3,8 @@
 // here; but any samples that are i32s have such a text.
 //
 // No public call has a `requires`. A text of any other form is refused, whatever part of it is like a trace.
+#![tactic(auto)]
+
 ghost use Rattle.std.specs.Prelude.{◌≡◌, ◌+◌, ◌<◌, ◌≤◌, pos, length, replicate};
 ghost use Rattle.std.proofs.lemmas.List.Edits.{sets};
 ghost use Rattle.text.specs.Rows.{no_list};
@@ -14,7 +16,7 @@ use text::{Line, ListLine, decimal_line, list_line};
 
 // What a text says: number 0, num, how many blocks it has, and their samples in a row, 24 a block, with zeros
 // behind them; or number 9 and zeros.
-#[derive(Drop)]
+#[derive(Clone, Copy)]
 pub struct Traced {
     pub number: u32,
     pub num: u32,

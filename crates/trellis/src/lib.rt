@@ -1,4 +1,6 @@
 // The Golay code in trio order: codewords by columns, the trellis of three sections by tables, and the ways back.
+#![tactic(auto)]
+
 mod tables;
 
 ghost use Rattle.std.specs.Prelude.{◌≡◌, ◌≤◌, length, get_or};
@@ -114,7 +116,7 @@ pub fn place(i: usize) -> usize
 
 // ---- the trellis
 // A branch out of a state at cut 8: its middle byte, and the state at cut 16 that it leads to.
-#[derive(Drop)]
+#[derive(Clone, Copy)]
 pub struct Edge {
     pub byte: u8,
     pub s16: u8,
@@ -231,21 +233,21 @@ pub fn nexts() -> [u8; 128]
 
 // ---- the ways back, as enums where the Rust has an Option
 // The state at cut 8 and the bit b1 of a prefix byte, or that it is no prefix byte.
-#[derive(Drop)]
+#[derive(Clone, Copy)]
 pub enum Opening {
     From(u8, u8),
     NoState,
 }
 
 // The branch b2 of a middle byte, and the state at cut 16 that it leads to, or that the state has no such branch.
-#[derive(Drop)]
+#[derive(Clone, Copy)]
 pub enum Passage {
     Along(u8, u8),
     NoBranch,
 }
 
 // The bit b3 of a suffix byte, or that the state has no such suffix byte.
-#[derive(Drop)]
+#[derive(Clone, Copy)]
 pub enum Closing {
     By(u8),
     NoSuffix,

@@ -1,9 +1,11 @@
-// The 48-bit word: ten fields, field_at apart and joined back. Bit 0 is the least significant one.
+// The 48-bit word: ten fields, cut apart and joined back. Bit 0 is the least significant one.
+#![tactic(auto)]
+
 ghost use Rattle.std.specs.Prelude.{◌≡◌, ◌+◌, ◌*◌, ◌^◌, ◌<◌, ◌≤◌};
 ghost use Rattle.word.specs.Word.{field_at, fields_of, fits, Narrow, word_of, join_of};
 
 // Where a field stands: its low bit and its width.
-#[derive(Drop)]
+#[derive(Clone, Copy)]
 struct Slot {
     lo: u32,
     width: u32,
@@ -30,7 +32,7 @@ const I3: Slot = Slot { lo: 36, width: 11 };
 const GAIN: Slot = Slot { lo: 47, width: 1 };
 
 // The fields of a word, lowest first, each in the narrowest type that holds it.
-#[derive(Drop)]
+#[derive(Clone, Copy)]
 pub struct Fields {
     pub p: u8, // the parity that the 24 coordinates share
     pub r: u8, // the class of section 1
@@ -45,7 +47,7 @@ pub struct Fields {
 }
 
 // What a join answers: number 0 and the word, or number 6 and word 0.
-#[derive(Drop)]
+#[derive(Clone, Copy)]
 pub struct Joined {
     pub number: u32,
     pub word: u64,
@@ -70,7 +72,7 @@ impl Fields {
         }
     }
 
-    // The word of the fields. A field that does not fit its width is refused: field_at to its width, it would name another point.
+    // The word of the fields. A field that does not fit its width is refused: cut to its width, it would name another point.
     pub fn join(self) -> Joined
         ensures { result ≡ join_of self }
     {

@@ -1,6 +1,8 @@
 // The page writer, request 2026-01: num, a count of blocks and 24 whole samples a block in, the text of their
 // page out, in a lent buffer. The call answers for every input. It is a crate of its own so that page, which
 // reads and forms texts, does not rest on the sample encoder.
+#![tactic(auto)]
+
 ghost use Rattle.std.specs.Prelude.{◌≡◌, ◌*◌, ◌≤◌, length, take};
 ghost use Rattle.writer.specs.Writer.{scale_of, is_wide, is_far, first_wide, first_far, word_for, words_for};
 ghost use Rattle.writer.specs.Writer.{refused_at, written_of, text_after};
@@ -9,7 +11,7 @@ use refusal::{NO_PAGE, NO_ROOM, NO_SCALE, TOO_FAR, TOO_LARGE};
 
 // What `write` answers: number 0 and the length of the text; or the number of the refusal, and for 2 and 4 the
 // lowest block that has it.
-#[derive(Drop)]
+#[derive(Clone, Copy)]
 pub struct Written {
     pub number: u32,
     pub block: usize,

@@ -3,6 +3,8 @@
 // that of the refusal, and then nothing that was lent is written. A block stands at a slice's start. 8 says
 // that a slice is too short for it, and stands before all other numbers; of a page after 9. The call that
 // writes a page answers a block beside the number. The calls of the even profile stand in profile.rt.
+#![tactic(auto)]
+
 mod environment;
 mod profile;
 mod slices;

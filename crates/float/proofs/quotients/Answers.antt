@@ -1,0 +1,12 @@
+use Rattle.std.proofs.Common.{◌≡◌, ℕ, ◌-◌, ◌<◌, ◌≤◌, List, length, get_or, sym, refl, ◌∙◌, arith, length-set, rules}
+use lib.Ieee.{Float, nan, binary64, div}
+use Rattle.laws.specs.Laws.Lists.{filled_more}
+use Rattle.float.proofs.Lists.{quotients-filled}
+use Rattle.float.proofs.quotients.Goals as goal
+
+pub returns : goal.returns
+returns c =
+    let at = c.loop-i in
+    let x = c.args.x in
+    let n : length x ≡ 24 = search rules in
+    quotients-filled x c.args.s at.t (at.invariant.1 ∙ sym n) (λ k h. at.invariant.2 k (omega arith))

@@ -1,0 +1,18 @@
+use mathlib.Core.Path.{◌≡◌, sym, ◌∙◌}
+use Prim.Native.Nat.{ℕ, ◌*◌, ◌/◌, ◌%◌, ◌^◌, ◌-◌, ◌≤◌, ◌<◌}
+use native.Mathlib.Omega.{arith}
+use borrow.Author.Rules.{rules}
+use lib.Bits.{and_mask}
+use lib.ListN.{length, get_or, length-set}
+use lib.Seq.{ext_get_or}
+use Rattle.laws.specs.Laws.Lists.{filled_more}
+use Rattle.rank.specs.Vector as vector
+use Rattle.rank.specs.Laws.Vector.{unpack-at}
+use Rattle.rank.proofs.unpack.Goals as goal
+
+pub returns : goal.returns
+returns c =
+    let l = c.loop-j in
+    let row = c.args.row in
+    ext_get_or 0 l.rho (vector.unpack 8 row) l.invariant.1
+    (λ k h. l.invariant.2 k (omega arith) ∙ sym (unpack-at 8 row k (omega arith)))

@@ -1,0 +1,17 @@
+use mathlib.Core.Path.{◌≡◌, ap}
+use mathlib.Core.Bool.{true}
+use Prim.Native.Nat.{◌+◌, ◌*◌, ◌-◌, ◌<◌, ◌≤◌}
+use native.Mathlib.Omega.{arith}
+use borrow.Author.Rules.{rules}
+use lib.ListN.{length, get_or, drop, drop_of_length-le}
+use Rattle.rank.specs.Vector.{ranks_below, sq, cost}
+use Rattle.rank.specs.Laws.Vector.{sq_mono}
+use Rattle.rank.proofs.Steps.{below_next, cost_step}
+use Rattle.rank.proofs.weigh.Given as goal
+
+abbrev pub invariant-loop-j : goal.invariant-loop-j
+invariant-loop-j l =
+    (l.j ≤ 8) × (ranks_below 16 (drop l.j l.rho) ≡ true) × (l.sum + cost (drop l.j l.rho) ≡ cost l.rho) × (l.sum ≤ 961 * l.j)
+
+abbrev pub decreases-loop-j : goal.decreases-loop-j
+decreases-loop-j l = 8 - l.j

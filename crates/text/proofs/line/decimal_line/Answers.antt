@@ -1,0 +1,7 @@
+use borrow.Author.Rules.{rules}
+use Rattle.text.specs.Lines.{decimal_line_at}
+use Rattle.text.proofs.line.decimal_line.Goals as goal
+
+pub returns : goal.returns
+unfolding decimal_line_at
+returns c = c.keyed.ensures

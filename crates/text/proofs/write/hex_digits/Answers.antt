@@ -1,0 +1,27 @@
+use borrow.Author.Rules.{rules}
+use native.Mathlib.Omega.{arith}
+use mathlib.Core.Path.{◌≡◌, refl, sym, ap, ◌∙◌}
+use mathlib.Core.List.{List}
+use Prim.Native.Nat.{ℕ, suc, ◌+◌, ◌-◌, ◌≤◌}
+use lib.ListN.{length, length-set}
+use lib.Seq.{sets}
+use Rattle.text.specs.Text.{hex}
+use Rattle.text.proofs.Digits.{digit-next}
+use Rattle.text.proofs.write.hex_digits.Goals as goal
+
+pub loop-j-preserved : goal.loop-j-preserved
+loop-j-preserved c =
+    let l = c.loop-j in
+    let a = c.args in
+    let j : l.j ≡ suc (l.j - 1) = omega arith in (
+      omega arith,
+      simp length-set l.invariant.1,
+      rw c.hex_digit.ensures (digit-next l.out a.at (l.j - 1) l.v ∙ ap (λ (k : ℕ). sets l.out a.at (hex k l.v)) (sym j) ∙ l.invariant.2),
+    )
+
+pub returns : goal.returns
+unfolding hex
+returns c =
+    let l = c.loop-j in
+    let j : l.j ≡ 0 = omega arith in
+    (refl, rw j at l.invariant.2)

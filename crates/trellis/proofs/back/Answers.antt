@@ -1,0 +1,7 @@
+use borrow.Author.Rules.{rules}
+use Rattle.trellis.specs.Laws.Code.{back_columns}
+use Rattle.trellis.proofs.back.Goals as goal
+
+pub returns : goal.returns
+unfolding back_columns
+returns c = c.combine.ensures

@@ -1,0 +1,7 @@
+use borrow.Author.Rules.{rules}
+use Rattle.trellis.specs.Code.{columns}
+use Rattle.trellis.proofs.codeword.Goals as goal
+
+pub returns : goal.returns
+unfolding columns
+returns c = c.combine.ensures

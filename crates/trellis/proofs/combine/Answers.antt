@@ -1,0 +1,21 @@
+use borrow.Author.Rules.{rules}
+use mathlib.Core.Path.{◌≡◌, ap, subst, ◌∙◌}
+use Prim.Native.Nat.{ℕ, ◌/◌, ◌^◌, ◌≤◌}
+use native.Mathlib.Omega.{arith}
+use native.Mathlib.Nat.{div-one}
+use Rattle.trellis.specs.Code.{codeword_of}
+use Rattle.trellis.proofs.Columns.{word_set, word_clear, word_end}
+use lib.ListN.{length, drop}
+use Rattle.trellis.proofs.combine.Goals as goal
+
+pub loop-j-preserved-then-x-j-eq1 : goal.loop-j-preserved-then-x-j-eq1
+loop-j-preserved-then-x-j-eq1 c =
+    let l = c.loop-j in
+    let a = c.args in
+    (omega arith, word_set a.cs.now a.x l.j l.acc (omega arith) (omega arith) l.invariant.1 c.if-x-j-eq1.true)
+
+pub loop-j-preserved : goal.loop-j-preserved
+loop-j-preserved c =
+    let l = c.loop-j in
+    let a = c.args in
+    (omega arith, word_clear a.cs.now a.x l.j l.acc (omega arith) (omega arith) l.invariant.1 c.if-x-j-eq1.false)

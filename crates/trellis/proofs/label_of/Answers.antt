@@ -1,0 +1,15 @@
+use borrow.Author.Rules.{rules}
+use Rattle.trellis.proofs.Ways.{label-found, label_lost}
+use Rattle.trellis.proofs.label_of.Goals as goal
+
+pub returns-then-codeword-c : goal.returns-then-codeword-c
+returns-then-codeword-c c =
+    let f = c.back-x in
+    let g = c.codeword in
+    label-found c.args.c f.result g.result f.ensures g.ensures c.if-codeword-c.true
+
+pub returns : goal.returns
+returns c =
+    let f = c.back-x in
+    let g = c.codeword in
+    label_lost c.args.c f.result g.result f.ensures g.ensures c.if-codeword-c.false

@@ -1,0 +1,9 @@
+use borrow.Author.Rules.{rules}
+use mathlib.Core.Path.{◌∙◌}
+use Rattle.trellis.specs.Tables.{nexts}
+use Rattle.trellis.specs.Laws.Rows.{zero_nexts, zero_first, first_nexts_lem}
+use Rattle.trellis.proofs.nexts.Goals as goal
+
+pub returns : goal.returns
+unfolding zero_nexts zero_first nexts
+returns c = c.sums.ensures ∙ first_nexts_lem

@@ -1,0 +1,9 @@
+use mathlib.Core.Path.{refl}
+use Rattle.laws.specs.Words.{tab}
+use Rattle.trellis.specs.Tables.{suffixes}
+use Rattle.trellis.specs.Trellis.{pairs_of}
+use Rattle.trellis.proofs.suffixes.Goals as goal
+
+pub returns : goal.returns
+unfolding pairs_of tab suffixes
+returns c = refl
