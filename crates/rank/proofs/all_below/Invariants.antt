@@ -1,11 +1,7 @@
-use mathlib.Core.Path.{◌≡◌, refl, sym, ◌∙◌}
+use mathlib.Core.Path.{◌≡◌}
 use Prim.Native.Nat.{◌-◌, ◌≤◌}
-use native.Mathlib.Omega.{arith}
-use borrow.Author.Rules.{rules}
-use borrow.Author.Tests.{lt-ltb, le-ltb}
-use lib.ListN.{length, get_or, drop, drop_of_length-le}
+use lib.ListN.{drop}
 use Rattle.rank.specs.Vector.{ranks_below}
-use Rattle.rank.proofs.Steps.{below_step}
 use Rattle.rank.proofs.all_below.Given as goal
 
 abbrev pub invariant-loop-j : goal.invariant-loop-j

@@ -1,5 +1,4 @@
 use mathlib.Core.Path.{refl, sym, ◌∙◌}
-use borrow.Author.Rules.{rules}
 use Rattle.rank.specs.Answers.{costed_of}
 use Rattle.rank.proofs.cost.Goals as goal
 

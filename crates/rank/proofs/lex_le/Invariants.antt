@@ -1,11 +1,7 @@
-use mathlib.Core.Path.{◌≡◌, refl, sym, ◌∙◌}
-use Prim.Native.Nat.{◌+◌, ◌-◌, ◌≤◌, compare}
-use native.Mathlib.Omega.{arith}
-use borrow.Author.Rules.{rules}
-use lib.ListN.{length, get_or, drop, drop_of_length-le}
-use Rattle.laws.specs.Words.{pick3, lex_le}
-use Rattle.laws.specs.Laws.Order.{pick3_less, pick3_same, pick3-more}
-use Rattle.rank.proofs.Steps.{lex-step}
+use mathlib.Core.Path.{◌≡◌}
+use Prim.Native.Nat.{◌-◌, ◌≤◌}
+use lib.ListN.{drop}
+use Rattle.laws.specs.Words.{lex_le}
 use Rattle.rank.proofs.lex_le.Given as goal
 
 abbrev pub invariant-loop-left : goal.invariant-loop-left

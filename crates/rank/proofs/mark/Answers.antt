@@ -1,12 +1,9 @@
 use mathlib.Core.Path.{◌≡◌, refl, sym, ap, ap₂, subst, ◌∙◌}
 use mathlib.Core.Bool.{Bool, true, false, cond}
 use Prim.Native.Nat.{ℕ, ◌<◌}
-use borrow.Author.Rules.{rules}
 use borrow.Author.Tests.{lt-ltb, eq-eqb}
 use lib.Dec.{ltb}
 use lib.IntN.{ℤ}
-use mir.Syntax.{w32}
-use mir.Val.{to_z, of_z}
 use mir.Facts.{to_z-of_z}
 use Rattle.laws.specs.Words.{mod_z}
 use Rattle.laws.specs.Laws.Whole.{mod4-lt}
@@ -31,26 +28,26 @@ mark_in_lem y = rw (lt-ltb (mod_z y 4) 4 (mod4-lt y), eq-eqb (mod_z y 4) (mod_z 
     go false = refl
 
 -- a mark that the answer gives is the mark of y
-marks : (c : goal.After-rank_of) (a : Ranked) → c.rank_of.result ≡ a
-    → (mark_in a ≡ mark_of c.args.y) × (mark_in a < 16)
-marks c a e = (is, subst (λ (m : ℕ). m < 16) (sym is) (mark-lt y))
+marks : (y : ℤ) (a : Ranked) → a ≡ ranked_of (mod_z y 4) y → (mark_in a ≡ mark_of y) × (mark_in a < 16)
+marks y a e = (is, subst (λ (m : ℕ). m < 16) (sym is) (mark-lt y))
   where
-    y : ℤ
-    y = c.args.y
-
-    back : to_z w32 (of_z w32 y) ≡ y
-    back = to_z-of_z c.ranges.y
-
     is : mark_in a ≡ mark_of y
-    is =
-        ap mark_in (sym e ∙ c.rank_of.ensures.0
-        ∙ ap₂ ranked_of (c.residue.ensures.0 ∙ ap (λ (z : ℤ). mod_z z 4) back) back) ∙ mark_in_lem y
+    is = ap mark_in e ∙ mark_in_lem y
 
 pub returns-in-Rank : goal.returns-in-Rank
-returns-in-Rank c = marks c.before _ c.rho-1.given.1
+returns-in-Rank c =
+    let back = to_z-of_z c.ranges.y in
+    marks c.args.y (Rank c.in-Rank.rho)
+    (sym c.in-Rank.is ∙ c.rank_of.ensures.0 ∙ ap₂ ranked_of (c.residue.ensures.0 ∙ ap (λ (z : ℤ). mod_z z 4) back) back)
 
 pub returns-in-Nothing : goal.returns-in-Nothing
-returns-in-Nothing c = marks c.before Nothing c.enum_told-1.given.1
+returns-in-Nothing c =
+    let back = to_z-of_z c.ranges.y in
+    marks c.args.y Nothing
+    (sym c.in-Nothing.is ∙ c.rank_of.ensures.0 ∙ ap₂ ranked_of (c.residue.ensures.0 ∙ ap (λ (z : ℤ). mod_z z 4) back) back)
 
 pub returns-in-Refused : goal.returns-in-Refused
-returns-in-Refused c = marks c.before Refused c.enum_told-in-Refused-1.given.1
+returns-in-Refused c =
+    let back = to_z-of_z c.ranges.y in
+    marks c.args.y Refused
+    (sym c.in-Refused.is ∙ c.rank_of.ensures.0 ∙ ap₂ ranked_of (c.residue.ensures.0 ∙ ap (λ (z : ℤ). mod_z z 4) back) back)

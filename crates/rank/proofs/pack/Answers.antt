@@ -1,13 +1,12 @@
 use mathlib.Core.Path.{◌≡◌, refl, ap, ◌∙◌}
-use Prim.Native.Nat.{ℕ, ◌*◌, ◌%◌, ◌^◌, ◌-◌, ◌≤◌, ◌<◌}
+use Prim.Native.Nat.{ℕ, ◌*◌, ◌%◌, ◌^◌, ◌<◌}
 use native.Mathlib.Nat.{add_comm}
 use native.Mathlib.Numerals.{add-one}
 use native.Mathlib.Omega.{arith}
 use borrow.Author.Rules.{rules}
 use lib.Bits.{bit_or, and_mask, or_shifted_r}
 use lib.Pow.{shl_exact}
-use lib.ListN.{length, get_or, take}
-use lib.Seq.{take_all}
+use lib.ListN.{length, get_or}
 use Rattle.rank.specs.Answers.{packed_of}
 use Rattle.rank.proofs.Steps.{packed_lt, packed_more}
 use Rattle.rank.proofs.pack.Goals as goal

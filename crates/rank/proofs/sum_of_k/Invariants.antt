@@ -1,11 +1,8 @@
-use mathlib.Core.Path.{◌≡◌, ap}
+use mathlib.Core.Path.{◌≡◌}
 use mathlib.Core.Bool.{true}
-use Prim.Native.Nat.{◌+◌, ◌*◌, ◌-◌, ◌<◌, ◌≤◌}
-use native.Mathlib.Omega.{arith}
-use borrow.Author.Rules.{rules}
-use lib.ListN.{length, get_or, drop, drop_of_length-le}
+use Prim.Native.Nat.{◌+◌, ◌*◌, ◌-◌, ◌≤◌}
+use lib.ListN.{drop}
 use Rattle.rank.specs.Vector.{ranks_below, k_zero}
-use Rattle.rank.proofs.Steps.{below_next, k_step}
 use Rattle.rank.proofs.sum_of_k.Given as goal
 
 abbrev pub invariant-loop-j : goal.invariant-loop-j

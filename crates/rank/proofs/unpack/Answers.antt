@@ -1,11 +1,6 @@
-use mathlib.Core.Path.{◌≡◌, sym, ◌∙◌}
-use Prim.Native.Nat.{ℕ, ◌*◌, ◌/◌, ◌%◌, ◌^◌, ◌-◌, ◌≤◌, ◌<◌}
+use mathlib.Core.Path.{sym, ◌∙◌}
 use native.Mathlib.Omega.{arith}
-use borrow.Author.Rules.{rules}
-use lib.Bits.{and_mask}
-use lib.ListN.{length, get_or, length-set}
 use lib.Seq.{ext_get_or}
-use Rattle.laws.specs.Laws.Lists.{filled_more}
 use Rattle.rank.specs.Vector as vector
 use Rattle.rank.specs.Laws.Vector.{unpack-at}
 use Rattle.rank.proofs.unpack.Goals as goal

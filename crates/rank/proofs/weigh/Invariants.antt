@@ -1,12 +1,8 @@
-use mathlib.Core.Path.{◌≡◌, ap}
+use mathlib.Core.Path.{◌≡◌}
 use mathlib.Core.Bool.{true}
-use Prim.Native.Nat.{◌+◌, ◌*◌, ◌-◌, ◌<◌, ◌≤◌}
-use native.Mathlib.Omega.{arith}
-use borrow.Author.Rules.{rules}
-use lib.ListN.{length, get_or, drop, drop_of_length-le}
-use Rattle.rank.specs.Vector.{ranks_below, sq, cost}
-use Rattle.rank.specs.Laws.Vector.{sq_mono}
-use Rattle.rank.proofs.Steps.{below_next, cost_step}
+use Prim.Native.Nat.{◌+◌, ◌*◌, ◌-◌, ◌≤◌}
+use lib.ListN.{drop}
+use Rattle.rank.specs.Vector.{ranks_below, cost}
 use Rattle.rank.proofs.weigh.Given as goal
 
 abbrev pub invariant-loop-j : goal.invariant-loop-j

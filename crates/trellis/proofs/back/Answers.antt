@@ -1,4 +1,3 @@
-use borrow.Author.Rules.{rules}
 use Rattle.trellis.specs.Laws.Code.{back_columns}
 use Rattle.trellis.proofs.back.Goals as goal
 

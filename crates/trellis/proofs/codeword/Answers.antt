@@ -1,4 +1,3 @@
-use borrow.Author.Rules.{rules}
 use Rattle.trellis.specs.Code.{columns}
 use Rattle.trellis.proofs.codeword.Goals as goal
 

@@ -1,11 +1,5 @@
-use borrow.Author.Rules.{rules}
-use mathlib.Core.Path.{◌≡◌, ap, subst, ◌∙◌}
-use Prim.Native.Nat.{ℕ, ◌/◌, ◌^◌, ◌≤◌}
 use native.Mathlib.Omega.{arith}
-use native.Mathlib.Nat.{div-one}
-use Rattle.trellis.specs.Code.{codeword_of}
-use Rattle.trellis.proofs.Columns.{word_set, word_clear, word_end}
-use lib.ListN.{length, drop}
+use Rattle.trellis.proofs.Columns.{word_set, word_clear}
 use Rattle.trellis.proofs.combine.Goals as goal
 
 pub loop-j-preserved-then-x-j-eq1 : goal.loop-j-preserved-then-x-j-eq1

@@ -1,10 +1,6 @@
-use borrow.Author.Rules.{rules}
-use mathlib.Core.Path.{◌≡◌, ap, subst, ◌∙◌}
-use Prim.Native.Nat.{ℕ, ◌/◌, ◌^◌, ◌≤◌}
-use native.Mathlib.Omega.{arith}
-use native.Mathlib.Nat.{div-one}
+use mathlib.Core.Path.{◌≡◌}
+use Prim.Native.Nat.{◌/◌, ◌^◌, ◌≤◌}
 use Rattle.trellis.specs.Code.{codeword_of}
-use Rattle.trellis.proofs.Columns.{word_set, word_clear, word_end}
 use lib.ListN.{length, drop}
 use Rattle.trellis.proofs.combine.Given as goal
 

@@ -1,4 +1,3 @@
-use borrow.Author.Rules.{rules}
 use Rattle.trellis.proofs.Ways.{label-found, label_lost}
 use Rattle.trellis.proofs.label_of.Goals as goal
 

@@ -1,4 +1,3 @@
-use borrow.Author.Rules.{rules}
 use mathlib.Core.Path.{◌∙◌}
 use Rattle.laws.specs.Words.{tab}
 use Rattle.trellis.specs.Tables.{middles}

@@ -1,4 +1,3 @@
-use borrow.Author.Rules.{rules}
 use mathlib.Core.Path.{◌∙◌}
 use Rattle.trellis.specs.Tables.{nexts}
 use Rattle.trellis.specs.Laws.Rows.{zero_nexts, zero_first, first_nexts_lem}

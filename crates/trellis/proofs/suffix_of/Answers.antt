@@ -1,4 +1,3 @@
-use borrow.Author.Rules.{rules}
 use native.Mathlib.Omega.{arith}
 use Rattle.trellis.proofs.Ways.{close-outside, close-found, close-none}
 use Rattle.trellis.proofs.suffix_of.Goals as goal

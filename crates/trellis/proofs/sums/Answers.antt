@@ -1,10 +1,5 @@
-use mathlib.Core.Path.{refl}
-use Prim.Native.Nat.{ℕ, ◌-◌, ◌/◌, ◌%◌}
 use native.Mathlib.Omega.{arith}
-use borrow.Author.Rules.{rules}
-use lib.ListN.{get_or}
-use lib.Bits.{bit_xor}
-use Rattle.laws.specs.Laws.Filled.{Filled, fill_none, fill_more, fill_all}
+use Rattle.laws.specs.Laws.Filled.{fill_all}
 use Rattle.trellis.specs.Laws.Rows.{sums_of}
 use Rattle.trellis.proofs.sums.Goals as goal
 

@@ -14,7 +14,7 @@ use Rattle.trellis.specs.Code.{codeword_of, columns, codewords, label, first, se
 use Rattle.trellis.specs.Tables.{prefixes, middles, suffixes}
 use Rattle.trellis.specs.Trellis.{row, prefix_of, middle_of, next_of, suffix_of, path, s8_of, b1_of, b2_of, b3_of, s16_of, label_of}
 use Rattle.trellis.specs.Trellis.{opening_of, passage_of, closing_of, opening_says, passage_says, closing_says}
-use Rattle.trellis.specs.Laws.Path.{row_at, row-length, prefixes-length, middles-length, suffixes-length}
+use Rattle.trellis.specs.Laws.Path.{row-length, prefixes-length, middles-length, suffixes-length}
 use Rattle.trellis.specs.Laws.Path.{path-at, first-at, second_at, third_at, middle_up, suffix-pair, next-lt}
 use Rattle.trellis.specs.Laws.Rows.{prefix-read}
 use Rattle.trellis.specs.Laws.Code.{distinct}

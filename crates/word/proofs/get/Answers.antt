@@ -1,9 +1,8 @@
 use mathlib.Core.Path.{◌≡◌}
 use Prim.Native.Nat.{ℕ, ◌*◌, ◌/◌, ◌%◌, ◌^◌, ◌<◌}
 use native.Mathlib.Nat.{one-mul, mod-eq_of_lt}
-use borrow.Author.Rules.{rules}
 use lib.Bits.{and_mask, mask_lt}
-use lib.Pow.{pow_pos, pow-lt}
+use lib.Pow.{pow-lt}
 use Rattle.word.specs.Word.{field_at}
 use Rattle.word.proofs.get.Goals as goal
 

@@ -1,7 +1,6 @@
 use mathlib.Core.Path.{◌∙◌}
 use Prim.Native.Nat.{ℕ, ◌+◌, ◌*◌, ◌^◌, ◌<◌}
 use native.Mathlib.Nat.{add_comm, mul_comm}
-use borrow.Author.Rules.{rules}
 use lib.Arith.{digits_lt}
 use lib.Bits.{or_shifted_r}
 use lib.Pow.{shl_exact, pow-add}

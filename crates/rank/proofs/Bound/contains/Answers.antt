@@ -1,5 +1,4 @@
 use mathlib.Core.Path.{refl, sym, ◌∙◌}
-use borrow.Author.Rules.{rules}
 use Rattle.rank.specs.Answers.{held_of}
 use Rattle.rank.proofs.Bound.contains.Goals as goal
 

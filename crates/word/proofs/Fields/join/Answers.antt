@@ -1,7 +1,5 @@
 use mathlib.Core.Path.{sym}
-use borrow.Author.Rules.{rules}
 use Rattle.word.specs.Word.{join_of}
-use Rattle.word.specs.Laws.{fits-narrow}
 use Rattle.word.proofs.Fields.join.Goals as goal
 
 pub returns-then-fits : goal.returns-then-fits
