@@ -1,0 +1,73 @@
+-- `listing::under_cap`: with no coordinate open the row itself is the listing; in the loop, what the call lists and what is left after it make up what
+-- was left. Assumes nothing.
+use Rattle.std.proofs.Common.{◌≡◌, refl, ap, sym, ◌∙◌, ◌++◌, ℕ, ◌+◌, ◌-◌, ◌*◌, ◌^◌, ◌<◌, arith, length, length-append}
+use Rattle.std.proofs.lemmas.List.Edits.{sets}
+use Rattle.laws.specs.Laws.Lists.{sets-append}
+use Rattle.rank.specs.Vector.{sq}
+use Rattle.listing.specs.Listing.{under}
+use Rattle.listing.specs.Laws.Growth.{below_six}
+use Rattle.listing.proofs.Rest.{under_none, rest_of, rest_all, rest_more, rest_none}
+use Rattle.listing.proofs.+under_cap.Goals as goal
+
+-- ---- no coordinate is open
+pub bounds-out-n : goal.bounds-out-n
+bounds-out-n t c =
+    let a = c.args in
+    let e = under_none a.left a.row a.spent c.if-left-eq0.true in
+    omega (arith, ap length e)
+
+pub returns-then-left-eq0 : goal.returns-then-left-eq0
+returns-then-left-eq0 t c =
+    let a = c.args in
+    let e = under_none a.left a.row a.spent c.if-left-eq0.true in
+    (omega (arith, ap length e), rw e refl)
+
+-- ---- the loop over the ranks of the first open coordinate
+pub loop-cost-init : goal.loop-cost-init
+loop-cost-init t c =
+    let a = c.args in
+    let e = rest_all a.left a.row a.spent (omega arith) in
+    (omega arith, refl, omega (arith, ap length e), ap (sets a.out.now a.n) (sym e))
+
+-- the rank of this turn is below 6
+six : (left spent r cost : ℕ) → cost ≡ sq r → spent + cost + (left - 1) < 128 → r < 6
+six left spent r cost e h = below_six r (spent + (left - 1)) (omega arith)
+
+-- what was left is what the call lists, and what is left after it
+more : (left row spent r cost next : ℕ) → cost ≡ sq r → spent + cost + (left - 1) < 128 → next ≡ row + r * 2 ^ (4 * (7 - (left - 1)))
+    → rest_of (left - 1) row spent r ≡ under (left - 1) next (spent + cost) ++ rest_of (left - 1) row spent (r + 1)
+more left row spent r cost next e h n = rest_more (left - 1) row spent r next (spent + cost) n (omega arith) (omega arith)
+
+pub under_cap-at-requires : goal.under_cap-at-requires
+under_cap-at-requires t c =
+    let a = c.args in
+    let l = c.loop-cost in
+    let e : 7 - (a.left - 1) + 1 ≡ 8 - (a.left - 1) = omega arith in
+    let m = more a.left a.row a.spent l.r c.square.result c.with_rank-next.result c.square.ensures.0 c.if-cost-rest-ge-COST_CAP.false
+    c.with_rank-next.ensures.0 in
+    let long = ap length m ∙ length-append (under (a.left - 1) c.with_rank-next.result (a.spent + c.square.result))
+    (rest_of (a.left - 1) a.row a.spent (l.r + 1)) in
+    (omega arith, (omega arith, omega arith, rw e at c.with_rank-next.ensures.1, omega (arith, c.requires.3, l.invariant.1, l.invariant.2, long)))
+
+pub loop-cost-preserved : goal.loop-cost-preserved
+loop-cost-preserved t c =
+    let a = c.args in
+    let l = c.loop-cost in
+    let f = c.under_cap-at in
+    let listed = under (a.left - 1) c.with_rank-next.result (a.spent + c.square.result) in
+    let later = rest_of (a.left - 1) a.row a.spent (l.r + 1) in
+    let m = more a.left a.row a.spent l.r c.square.result c.with_rank-next.result c.square.ensures.0 c.if-cost-rest-ge-COST_CAP.false
+    c.with_rank-next.ensures.0 in
+    let r : l.r < 6 = six a.left a.spent l.r c.square.result c.square.ensures.0 c.if-cost-rest-ge-COST_CAP.false in (
+      omega arith,
+      f.auto.out ∙ l.invariant.1,
+      omega (arith, f.ensures.0, ap length m ∙ length-append listed later, l.invariant.2),
+      cc (m, sets-append ℕ listed later l.out l.at, f.ensures.0, f.ensures.1, l.invariant.3),
+    )
+
+pub returns : goal.returns
+returns t c =
+    let a = c.args in
+    let l = c.loop-cost in
+    let e = rest_none (a.left - 1) a.row a.spent l.r (omega (arith, c.square.ensures.0, c.if-cost-rest-ge-COST_CAP.true)) in
+    (omega (arith, ap length e, l.invariant.2), ap (sets l.out l.at) (sym e) ∙ l.invariant.3)

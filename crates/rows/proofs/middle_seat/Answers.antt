@@ -1,0 +1,14 @@
+use mathlib.Core.Path.{sym, subst}
+use Prim.Native.Nat.{ℕ, ◌<◌, ◌≤◌}
+use Rattle.rows.specs.Laws.Seats.{middle_used, middle_unused}
+use Rattle.rows.proofs.middle_seat.Goals as goal
+
+pub returns-then-index-middle_rows : goal.returns-then-index-middle_rows
+returns-then-index-middle_rows c =
+    let a = c.args in
+    sym (middle_used a.class a.index (subst (λ (n : ℕ). a.index < n) c.middle_rows.ensures c.if-index-middle_rows.true))
+
+pub returns : goal.returns
+returns c =
+    let a = c.args in
+    sym (middle_unused a.class a.index (subst (λ (n : ℕ). n ≤ a.index) c.middle_rows.ensures c.if-index-middle_rows.false))

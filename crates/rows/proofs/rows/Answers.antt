@@ -1,0 +1,7 @@
+use mathlib.Core.Path.{refl}
+use Rattle.rows.specs.Rows.{rows}
+use Rattle.rows.proofs.rows.Goals as goal
+
+pub returns : goal.returns
+unfolding rows
+returns c = refl
