@@ -14,42 +14,20 @@ use lib.Pow.{shl_exact}
 use Rattle.rank.specs.Coord.{bit_of}
 use Rattle.rank.specs.Section.{bits_of}
 use Rattle.tetra.proofs.Rows.{bits-next, bits_end}
-use Rattle.tetra.proofs.bits.Statement.{statement}
-use Rattle.tetra.proofs.bits.Tie as tie
+use Rattle.tetra.proofs.bits.Goals as goal
 
-abbrev invariant_loop : tie.invariant_loop
-invariant_loop t c₀ j₀ c j = (j ≤ 24) × (c ≡ bits_of (drop j t)) × (c < 2 ^ (24 - j))
+pub loop-j-init : goal.loop-j-init
+loop-j-init c =
+    let e : length c.args.t ≡ 24 = search rules in
+    (omega arith, sym (bits_end c.args.t e), omega arith)
 
-abbrev decreases_loop : tie.decreases_loop
-decreases_loop t c₀ j₀ c j = j
-
-loop_holds : tie.Need-loop-init invariant_loop decreases_loop
-loop_holds c =
-    let e : length c.args.t1 ≡ 24 = search rules in
-    (omega arith, sym (bits_end c.args.t1 e), omega arith)
-
-sub-j : tie.Need-overflow-sub-j invariant_loop decreases_loop
-sub-j c = search rules
-
-mul-bit : tie.Need-overflow-mul-bit invariant_loop decreases_loop
-mul-bit c = search rules
-
-array-copy-out-bit : tie.Need-array-copy-out-bit invariant_loop decreases_loop
-array-copy-out-bit c = search rules
-
-bit-requires : tie.Need-bit-requires invariant_loop decreases_loop
-bit-requires c κs = search rules
-
-loop_less : tie.Need-loop-smaller invariant_loop decreases_loop
-loop_less c = search rules
-
-loop_again : tie.Need-loop-preserved invariant_loop decreases_loop
-loop_again c =
-    let l = c.before.before.before.loop in
-    let t = c.before.before.before.before.args.t1 in
+pub loop-j-preserved : goal.loop-j-preserved
+loop-j-preserved c =
+    let l = c.loop-j in
+    let t = c.args.t in
     let e : length t ≡ 24 = search rules in
     let i = l.j - 1 in
-    let f : SFits w32 (get_or t i (pos 0)) = record { sfits = c.before.bit-arg.given } in
+    let f : SFits w32 (get_or t i (pos 0)) = record { sfits = c.bit-arg-1.given } in
     let b = c.bit.result in
     let q : b ≡ bit_of (get_or t i (pos 0)) = c.bit.ensures.0 ∙ ap bit_of (to_z-of_z f) in
     let d : bit_or (l.c * 2 % 2 ^ 32) b ≡ l.c * 2 + b =
@@ -69,24 +47,3 @@ loop_again c =
 
     more : (n c b : ℕ) → c < 2 ^ n → b < 2 → c * 2 + b < 2 ^ suc n
     more n c b h k = omega (arith, pow-suc 2 n)
-
-returns : tie.Need-returns invariant_loop decreases_loop
-returns c =
-    let l = c.before.loop in
-    let e : l.j ≡ 0 = omega arith in
-    l.invariant.1 ∙ ap (λ (n : ℕ). bits_of (drop n c.before.before.args.t1)) e
-
-pub bits-spec : {M : Type 1} → statement M
-bits-spec =
-    tie.close
-    (tie.spec
-    invariant_loop
-    decreases_loop
-    loop_holds
-    sub-j
-    mul-bit
-    array-copy-out-bit
-    bit-requires
-    loop_less
-    loop_again
-    returns)

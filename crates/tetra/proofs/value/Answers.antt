@@ -9,20 +9,13 @@ use mir.Facts.{to_z-of_z}
 use Rattle.rank.specs.Coord.{val_of}
 use Rattle.rank.specs.Answers.{valued_of}
 use Rattle.rank.specs.declared.Valued.{Valued}
-use Rattle.tetra.proofs.value.Statement.{statement}
-use Rattle.tetra.proofs.value.Tie as tie
-
-val-requires : tie.Need-val-requires
-val-requires c κs = search rules
+use Rattle.tetra.proofs.value.Goals as goal
 
 valued : {o rho : ℕ} → o < 4 → rho < 8 → valued_of o rho ≡ record { number = 0; value = val_of o rho }
 unfolding valued_of
 valued ho hr = rw (lt-ltb _ _ ho, lt-ltb _ _ hr)
 
-returns : tie.Need-returns
+pub returns : goal.returns
 returns c =
-    let f : SFits w32 c.before.val.result.value = search rules in
-    to_z-of_z f ∙ ap (λ (r : Valued). r.value) (c.before.val.ensures ∙ valued c.before.before.requires.0 c.before.before.requires.1)
-
-pub value_spec : {M : Type 1} → statement M
-value_spec = tie.close (tie.spec val-requires returns)
+    let f : SFits w32 c.val-v.result.value = search rules in
+    to_z-of_z f ∙ ap (λ (r : Valued). r.value) (c.val-v.ensures ∙ valued c.requires.0 c.requires.1)
