@@ -1,3 +1,4 @@
+-- `float::clamp` meets its contract: each arm returns what the definition picks where the tests are as the arm found them. Assumes nothing.
 use lib.Ieee.{of_bits, neg}
 use Rattle.float.specs.Calls.{clamped}
 use Rattle.float.proofs.clamp.Goals as goal

@@ -1,3 +1,4 @@
+-- `float::is_finite` meets its contract: below plus infinity and above minus infinity. Assumes nothing.
 use lib.Ieee.{of_bits, div, neg}
 use Rattle.float.proofs.Tests.{finite_yes, finite_no}
 use Rattle.float.proofs.is_finite.Goals as goal

@@ -1,6 +1,5 @@
-use Rattle.std.proofs.Common.{◌≡◌, ℕ, ◌-◌, ◌<◌, ◌≤◌, List, length, get_or, sym, refl, ◌∙◌, arith, length-set, rules}
-use lib.Ieee.{Float, nan, binary64, div}
-use Rattle.laws.specs.Laws.Lists.{filled_more}
+-- `float::quotients` meets its contract: where the loop ends every place holds its quotient. Assumes nothing.
+use Rattle.std.proofs.Common.{◌≡◌, length, sym, ◌∙◌, arith, rules}
 use Rattle.float.proofs.Lists.{quotients-filled}
 use Rattle.float.proofs.quotients.Goals as goal
 

@@ -1,7 +1,6 @@
-use Rattle.std.proofs.Common.{◌≡◌, ℕ, ◌-◌, ◌<◌, ◌≤◌, List, length, get_or, sym, refl, ◌∙◌, arith, length-set, rules}
+-- The loop's invariant of `float::quotients`: every place before i holds its quotient.
+use Rattle.std.proofs.Common.{◌≡◌, ℕ, ◌-◌, ◌<◌, ◌≤◌, List, length, get_or}
 use lib.Ieee.{Float, nan, binary64, div}
-use Rattle.laws.specs.Laws.Lists.{filled_more}
-use Rattle.float.proofs.Lists.{quotients-filled}
 use Rattle.float.proofs.quotients.Given as goal
 
 abbrev over : List Float → Float → ℕ → Float

@@ -10,8 +10,8 @@ use denote.Floats.{FloatOf}
 use denote.Shadow.{shadow}
 use Rattle.float.specs.Calls.{quotients_of}
 
--- in a proof: search (each-held, needs)
-pub each-held : (f : Format) (xs : List Float) (us : List Val) (i : ℕ) → shadow (each Float (FloatOf f).own xs us) → T (fits f (slice_index_or xs i nan))
+-- in a proof: search (each-held, rules)
+pub each-held : (f : Format) (xs : List Float) (us : List Val) (i : ℕ) → shadow (each Float (FloatOf f).own_val xs us) → T (fits f (slice_index_or xs i nan))
 each-held f [] us i p = nan-fits f
 each-held f (x ∷ xs) [] i p = absurd p
 each-held f (x ∷ xs) (u ∷ us) zero p = subst T (sym p.0.1) tt
