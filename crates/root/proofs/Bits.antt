@@ -20,7 +20,7 @@ use native.Mathlib.Nat.{
 use native.Mathlib.Omega.{arith}
 use lib.Dec.{T, leb, eqb, leb→le, eqb→eq, not_T}
 use lib.Pow.{pow-add, pow_pos}
-use lib.Ieee.{Float, nan, inf, fin, binary64, size, fits, to_bits, of_bits, of_fields, odd}
+use lib.Ieee.{Float, nan, inf, binary64, size, fits, to_bits, of_bits, of_fields, odd}
 use lib.Ieee.Bits.{of_bits-fits, cond_no, is_false}
 use lib.Ieee.Digits.{size-le, size_reaches}
 use lib.Ieee.Exact.{HasValue, odd_sign}

@@ -1,22 +1,11 @@
 -- The loops: the factor that raises the radicand, and the root digit by digit. Assumes nothing.
-use mathlib.Core.Path.{◌≡◌, sym, ap, ◌∙◌, subst}
-use Prim.Native.Nat.{ℕ, ◌+◌, ◌-◌, ◌*◌, ◌/◌, ◌%◌, ◌^◌, ◌≤◌, ◌<◌, zero-le}
-use native.Mathlib.Nat.{
-  lt_of_lt_of_le,
-  lt_of_le_of_lt,
-  lt_of_not-le,
-  not-le_of_lt,
-  mul-one,
-  mul_assoc,
-  mul_comm,
-  mul_left_comm,
-  mul-le-mul,
-  pow-suc,
-}
+use mathlib.Core.Path.{◌≡◌, sym, ap, ◌∙◌}
+use Prim.Native.Nat.{ℕ, ◌+◌, ◌-◌, ◌*◌, ◌/◌, ◌%◌, ◌^◌, ◌≤◌, ◌<◌}
+use native.Mathlib.Nat.{lt_of_lt_of_le, lt_of_le_of_lt, lt_of_not-le, not-le_of_lt, mul_assoc, mul_comm, mul_left_comm, mul-le-mul, pow-suc}
 use native.Mathlib.Numerals.{add-one}
 use native.Mathlib.Omega.{arith}
 use lib.Pow.{pow-add, pow_mono}
-use Rattle.root.specs.Inner.{Even, IsRoot, Step}
+use Rattle.root.specs.Inner.{Even, Step}
 
 -- ---- an even exponent
 pub even_odd : (m k : ℕ) → m < 2 ^ 53 → k % 2 ≡ 1 → Even m k (m * 2) (k - 1)
@@ -37,9 +26,6 @@ pub record Raising (m n h : ℕ) : Type 0 where
   pub h_le : h ≤ 26
   pub hi : n < 2 ^ 54
   pub grown : 2 ^ h * 2 ^ h ≤ n
-
-pub raising-start : (m : ℕ) → 0 < m → m < 2 ^ 54 → Raising m m 0
-raising-start m p h = record { is = sym (mul-one m); h_le = zero-le; hi = h; grown = p }
 
 pub raising-next : (m n h : ℕ) → Raising m n h → n < 2 ^ 52 → Raising m (n * 4) (h + 1)
 raising-next m n h r l =
@@ -73,11 +59,3 @@ upto_next {m} {left} {i} {root} {rem} {root'} {rem'} u h s =
     let q : 2 ^ (i + 1) ≡ 2 ^ i * 2 = ap (λ (k : ℕ). 2 ^ k) (add-one i) ∙ pow-suc 2 i in
     let r : m * 4 ^ (i + 1) ≡ m * 4 ^ i * 4 = ap (λ (k : ℕ). m * k) p ∙ sym (mul_assoc m (4 ^ i) 4) in
     record { at = omega arith; sum = omega (arith, u, s, r); low = s.low; size = omega (arith, u, s, q); left_lt = omega arith }
-
--- 53 digits: nothing is left of the radicand
-pub upto_end : {m left root rem : ℕ} (i : ℕ) → Upto m left i root rem → 53 ≤ i → IsRoot (m * 2 ^ 52) root rem
-upto_end {m} {left} {root} {rem} i u h =
-    let e : i ≡ 53 = omega (arith, u.at) in
-    let s : (root * root + rem) * 2 ^ 54 + left ≡ m * 4 ^ 53 =
-    subst (λ (k : ℕ). (root * root + rem) * 2 ^ 54 + left ≡ m * 4 ^ k) e u.sum in
-    record { sum = omega (arith, s, u.left_lt); low = u.low }

@@ -3,7 +3,7 @@ use mathlib.Core.Path.{◌≡◌, refl, sym, ap, ◌∙◌, subst}
 use mathlib.Core.Bool.{Bool, true, false, cond, not, true≢false}
 use mathlib.Core.Logic.{inl, inr}
 use Prim.Native.Nat.{ℕ, zero, suc, ◌+◌, ◌-◌, ◌*◌, ◌/◌, ◌^◌, ◌≤◌, ◌<◌}
-use native.Mathlib.Nat.{lt_irrefl, zero-lt-suc, mul_assoc, mul_comm, mul_left_comm, zero-mul}
+use native.Mathlib.Nat.{lt_irrefl, mul_assoc, mul_comm, mul_left_comm}
 use native.Mathlib.Omega.{arith}
 use borrow.Author.Tests.{lt-ltb, le-ltb}
 use lib.Dec.{T}
@@ -17,7 +17,7 @@ use Rattle.float.specs.Laws.Exact.{Exactly, no_nan, no_digits, some-digits, zero
 use Rattle.float.specs.Laws.Compare.{is_lt, zero-lt, eq_zero, zero-eq}
 use Rattle.root.specs.Root.{NearestRoot, nearer, root_of, rooted, no_root}
 use Rattle.root.specs.Nearest.{nearest_unique, root-nearest}
-use Rattle.root.specs.Laws.{Floor, sq-next, floor-lt, nearer_full, nearer-top, nearest_of}
+use Rattle.root.specs.Laws.{Floor, sq-next, nearer_full, nearer-top, nearest_of}
 use Rattle.root.specs.Inner.{Above, Apart, Even, Raised, IsRoot, Picked}
 use Rattle.root.proofs.Bits.{made}
 
@@ -50,22 +50,11 @@ radicand m c h k e =
     gather m a b d = simp (mul_assoc, mul_comm, mul_left_comm)
 
 -- ---- the steps
--- a factor of a number above zero
-factor_pos : (m p g : ℕ) → m * p ≡ g → 0 < g → 0 < m
-factor_pos zero p g e h = absurd (lt_irrefl 0 (subst (λ (z : ℕ). 0 < z) (sym e ∙ zero-mul p) h))
-factor_pos (suc m) p g e h = zero-lt-suc m
-
-pub evened_pos : {x : Float} {m k m' k' : ℕ} → Above x → Apart x m k → Even m k m' k' → 0 < m'
-evened_pos {x} {m} {k} {m'} {k'} a p e = factor_pos m' (2 ^ k') (mag_units x) (e.same ∙ p.mag) a.pos
-
 radicand-lt : {m n h : ℕ} → Raised m n h → n * 2 ^ 52 < 2 ^ 106
 radicand-lt {m} {n} {h} r = go n r.hi
   where
     go : (n : ℕ) → n < 2 ^ 54 → n * 2 ^ 52 < 2 ^ 106
     go n h = omega arith
-
-pub root-small : {m n h root rem : ℕ} → Raised m n h → IsRoot (n * 2 ^ 52) root rem → root < 2 ^ 53
-root-small r i = floor-lt (floor_of i) (radicand-lt r)
 
 module _ {x : Float} {m k m' k' n h root rem r : ℕ} (p : Apart x m k) (e : Even m k m' k') (g : Raised m' n h) (i : IsRoot (n * 2 ^ 52) root rem)
     (c : Picked root rem r) where
