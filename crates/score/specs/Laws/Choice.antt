@@ -1,8 +1,8 @@
 -- THE CHOICE THAT SAMPLES GIVE IS ACCEPTED FOR THEM. It refuses nothing: a scale has a second one, a magnitude that samples are divided by is at
 -- most 2 ^ -1000, and the scale beside it lies between 0.06 and 0.33. Assumes nothing.
-use Rattle.std.specs.Prelude.{◌≡◌, Bool, true, false, cond, not, ◌&&◌, List, ℕ, ◌+◌, ◌*◌, ◌^◌, ◌≤◌, ◌<◌, T, eqb, length, Float}
+use Rattle.std.specs.Prelude.{◌≡◌, Bool, true, false, cond, not, ◌&&◌, List, ℕ, ◌+◌, ◌*◌, ◌^◌, ◌≤◌, ◌<◌, T, length, Float}
 use Rattle.std.proofs.Math.Path.{refl}
-use Rattle.std.proofs.Common.{sym, ap, ◌∙◌, subst, inl, inr, le_trans, le_of_eq, lt_of_lt_of_le}
+use Rattle.std.proofs.Common.{sym, ap, subst, inl, inr, le_trans, le_of_eq, lt_of_lt_of_le}
 use native.Mathlib.Omega.{arith}
 use Rattle.std.proofs.Math.Dec.{lit≤}
 use Rattle.std.specs.Float.{binary64}
@@ -12,14 +12,14 @@ use Rattle.std.specs.Float.Ieee.Scale.{finite}
 use Rattle.laws.specs.Laws.Order.{le-or-lt}
 use Rattle.laws.specs.Laws.Tests.{is_true, true_is, and_in}
 use Rattle.float.specs.Value.{U, mag_units, pos_units, neg_units, zero64}
-use Rattle.float.specs.Calls.{abs_of, million64, quotients_of}
+use Rattle.float.specs.Calls.{abs_of, quotients_of}
 use Rattle.float.specs.Laws.Exact.{parts, zero-fits}
 use Rattle.float.specs.Laws.Compare.{is_le, eq_zero, zero-eq}
 use Rattle.float.specs.Laws.Near.{abs-exactly}
 use Rattle.score.specs.declared.Scales.{Scales}
 use Rattle.score.specs.declared.Choice.{Choice}
 use Rattle.score.specs.declared.Choice.TheVariants.{Zero, Scale, Divide}
-use Rattle.score.specs.Samples.{AllFit, limit64, exceeds, some, sample_number, is_scale, or_else}
+use Rattle.score.specs.Samples.{AllFit, some, sample_number, is_scale}
 use Rattle.score.specs.Scale.{root24, least_normal64, largest_of, unit_norm, scale_with, is_normal, lower_scale, choice_of, second_scale}
 use Rattle.score.specs.Choice.{
   most_magnitude64,
@@ -33,28 +33,9 @@ use Rattle.score.specs.Choice.{
   choice_number,
 }
 use Rattle.score.specs.Laws.Sample.{UpTo, Each, each_map, Sample, some-none, samples_are, scale-says}
-use Rattle.score.specs.Laws.Largest.{Plain, above_zero, Largest, largest_of_lem, largest-le}
+use Rattle.score.specs.Laws.Largest.{Plain, above_zero, largest-le}
 use Rattle.score.specs.Laws.Scale.{Derived}
-use Rattle.score.specs.Laws.Quotient.{
-  Keeps,
-  KeepsBoth,
-  derived_scale,
-  top,
-  met,
-  scale-derived,
-  scale_most,
-  scale_is,
-  over_small,
-  over_samples,
-  over-length,
-  over_near,
-  over_top,
-  chosen,
-  choice_is,
-  keeps-scale,
-  keeps_divided,
-  not_zero,
-}
+use Rattle.score.specs.Laws.Quotient.{Keeps, derived_scale, top, met, scale-derived, scale_most, scale_is, over_small, over_samples, over-length, over_near, over_top, chosen, choice_is, keeps-scale, keeps_divided, not_zero}
 
 -- ---- a plain double that is at most another
 plain-le : (a b : Float) → Plain a → Plain b → mag_units a ≤ mag_units b → T (le a b)

@@ -1,8 +1,8 @@
 -- WHAT AN ACCEPTED CHOICE SAYS, of any samples: what is coded under it, the samples or their quotients by its magnitude, are accepted samples, and
 -- they are accepted at both of its scales. So a choice is two calls at a scale. Assumes nothing.
-use Rattle.std.specs.Prelude.{◌≡◌, Bool, true, cond, ◌&&◌, ℕ, ◌+◌, ◌*◌, ◌^◌, ◌≤◌, ◌<◌, eqb, Float}
+use Rattle.std.specs.Prelude.{◌≡◌, Bool, true, cond, ℕ, ◌+◌, ◌*◌, ◌^◌, ◌≤◌, ◌<◌, eqb, Float}
 use Rattle.std.proofs.Math.Path.{refl}
-use Rattle.std.proofs.Common.{sym, ap, ◌∙◌, subst, le_trans, le_of_eq, lt_of_lt_of_le, mul_assoc, one-mul, add-mul, mul-le-mul, le_of_mul-le-mul_right, arith, eqb-true, pow_pos}
+use Rattle.std.proofs.Common.{sym, ap, ◌∙◌, le_trans, le_of_eq, lt_of_lt_of_le, mul_assoc, one-mul, add-mul, mul-le-mul, le_of_mul-le-mul_right, arith, eqb-true, pow_pos}
 use Rattle.std.proofs.Math.Bool.{false}
 use mathlib.Core.List.{List, [], ◌∷◌}
 use Rattle.std.proofs.lemmas.Bool.{eqb-false}
@@ -12,8 +12,8 @@ use Rattle.std.specs.Float.Ieee.{fin, binary64, fits, div, lt, le, eq}
 use Rattle.std.specs.Float.Ieee.Fits.{div-fits}
 use Rattle.std.specs.Float.Ieee.Scale.{finite}
 use Rattle.laws.specs.Laws.Tests.{split4, and_in, and_left, and_right}
-use Rattle.float.specs.Value.{U, mag_units, is_minus, pos_units, neg_units, zero64}
-use Rattle.float.specs.Calls.{abs_of, million64, quotients_of}
+use Rattle.float.specs.Value.{U, mag_units, pos_units, neg_units, zero64}
+use Rattle.float.specs.Calls.{million64, quotients_of}
 use Rattle.float.specs.Laws.Exact.{parts, zero-fits, zero_mag}
 use Rattle.float.specs.Laws.Compare.{le_is, zero-lt, is_lt}
 use Rattle.float.specs.Laws.Near.{abs-upto}

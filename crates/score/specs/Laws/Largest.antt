@@ -107,5 +107,6 @@ pub largest-le : (g : ℕ) (xs : List Float) → Each (UpTo g) xs → Has (mag_u
 largest-le g xs e h = go xs e h
   where
     go : (ys : List Float) → Each (UpTo g) ys → Has (mag_units (largest_of xs)) ys → mag_units (largest_of xs) ≤ g
+    go [] e h = elim h [ ]
     go (y ∷ ys) (more u e) (here i) = le_trans (le_of_eq (sym i)) u.le
     go (y ∷ ys) (more u e) (there h) = go ys e h

@@ -59,6 +59,7 @@ module _ (m : Float) (p : Plain m) (M : 0 < mag_units m) where
   pub over_reaches : (g : ℕ) (xs : List Float) → Each (UpTo (mag_units m)) xs → Has (mag_units m) xs → Each (UpTo g) (quotients_of xs m)
       → U ≤ g + 2 ^ 1021
   unfolding quotients_of
+  over_reaches g [] e h d = elim h [ ]
   over_reaches g (x ∷ xs) (more u e) (here i) (more b d) = le_trans (over-ge x u i) (add-le-add b.le (le_refl (2 ^ 1021)))
   over_reaches g (x ∷ xs) (more u e) (there h) (more b d) = over_reaches g xs e h d
 
@@ -139,6 +140,7 @@ module _ (m : Float) (p : Plain m) (M : 0 < mag_units m) where
   total-ge : (xs : List Float) → Each (UpTo (mag_units m)) xs → Has (mag_units m) xs
       → U ≤ total (products (quotients_of xs m) (quotients_of xs m)) + 2 ^ 1024
   unfolding total products quotients_of
+  total-ge [] e h = elim h [ ]
   total-ge (x ∷ xs) (more u e) (here i) =
       let q = div binary64 x m in
       let r = over m p M x u in

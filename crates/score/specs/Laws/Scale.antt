@@ -2,7 +2,7 @@
 -- and at most 0.324 of it, but for two units. Assumes nothing.
 use Rattle.std.specs.Prelude.{◌≡◌, refl, Bool, false, ℕ, ◌+◌, ◌*◌, ◌^◌, ◌≤◌, ◌<◌, Float}
 use Rattle.std.proofs.Common.{sym, ap, ap₂, ◌∙◌, subst, le_refl, le_trans, le_of_eq, lt_of_lt_of_le, lt_of_le_of_lt, add-le-add, mul_comm, mul_assoc, mul_left_comm, mul-add, add-mul, one-mul, mul-le-mul, mul-le-mul_left, mul-le-mul_right, le_of_mul-le-mul_right, arith, lit≤, pow_pos}
-use Rattle.std.specs.Float.{fin, binary64}
+use Rattle.std.specs.Float.{binary64}
 use Rattle.std.specs.Float.Ieee.{fits, mul, unlike, of_bits, round, size}
 use Rattle.float.specs.Value.{U, mag_units}
 use Rattle.float.specs.Laws.Relative.{Close, mul-close, div-close}

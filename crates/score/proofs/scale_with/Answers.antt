@@ -3,12 +3,8 @@ use mathlib.Core.Path.{sym, ap}
 use lib.Ieee.{Float, binary64, of_bits, mul, div}
 use Rattle.score.specs.Scale.{alpha64}
 use Rattle.score.specs.Laws.Scale.{root24_is}
-use Rattle.score.proofs.scale_with.Statement.{statement}
-use Rattle.score.proofs.scale_with.Tie as tie
+use Rattle.score.proofs.scale_with.Goals as goal
 
-returns : tie.Need-returns
+pub returns : goal.returns
 unfolding of_bits
 returns c = ap (λ (r : Float). div binary64 (mul binary64 (mul binary64 alpha64 c.args.m) c.args.n) r) (sym root24_is)
-
-pub scale-with-spec : {M : Type 1} → statement M
-scale-with-spec = tie.close (tie.spec returns)

@@ -1,0 +1,13 @@
+-- The loop's invariant of `score::some_nonzero`: one of all passes the test where one of those left does.
+use mathlib.Core.Path.{◌≡◌}
+use Prim.Native.Nat.{◌≤◌, ◌-◌}
+use lib.ListN.{drop}
+use Rattle.score.specs.Samples.{some}
+use Rattle.score.specs.Choice.{nonzero}
+use Rattle.score.proofs.some_nonzero.Given as goal
+
+abbrev pub invariant-loop-i : goal.invariant-loop-i
+invariant-loop-i l = (l.i ≤ 24) × (some nonzero l.x ≡ some nonzero (drop l.i l.x))
+
+abbrev pub decreases-loop-i : goal.decreases-loop-i
+decreases-loop-i l = 24 - l.i
