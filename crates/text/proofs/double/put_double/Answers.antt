@@ -1,8 +1,7 @@
-use mathlib.Core.Path.{◌≡◌, sym, subst}
-use mathlib.Core.Bool.{true, false, not}
-use borrow.Author.Rules.{rules}
-use lib.Dec.{T}
-use lib.Ieee.{Float, nan, inf, fin, binary64, is_nan, lt, of_bits, to_bits}
+-- `double::put_double` meets its contract; and a NaN, which is on neither side of 0.0, has no bits that are asked for. Assumes nothing.
+use mathlib.Core.Path.{◌≡◌}
+use mathlib.Core.Bool.{true, false}
+use lib.Ieee.{Float, fin, binary64, lt, of_bits, to_bits}
 use lib.IntN.{pos}
 use Rattle.text.specs.Doubles.{bits_shown}
 use Rattle.text.proofs.double.put_double.Goals as goal
@@ -24,16 +23,19 @@ pub returns-then-x : goal.returns-then-x
 unfolding of_bits
 returns-then-x c =
     let q = c.put_hex.ensures in
-    rw (less _ c.if-x.true) (q.0, q.1)
+    let e = less _ c.if-x.true in
+    record { value = rw e q.value; out_after = rw e q.out_after }
 
 pub returns-then-x-2 : goal.returns-then-x-2
 unfolding of_bits
 returns-then-x-2 c =
     let q = c.put_hex-then-x-2.ensures in
-    rw (greater _ c.if-x.false c.if-x-2.true) (q.0, q.1)
+    let e = greater _ c.if-x.false c.if-x-2.true in
+    record { value = rw e q.value; out_after = rw e q.out_after }
 
 pub returns : goal.returns
 unfolding of_bits
 returns c =
     let q = c.put_hex-2.ensures in
-    rw (neither _ c.if-x.false c.if-x-2.false) (q.0, q.1)
+    let e = neither _ c.if-x.false c.if-x-2.false in
+    record { value = rw e q.value; out_after = rw e q.out_after }

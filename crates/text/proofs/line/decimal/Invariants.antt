@@ -1,11 +1,8 @@
-use borrow.Author.Rules.{rules}
-use borrow.Author.Tests.{lt-ltb, le-ltb, ne_eqb, eq-eqb}
-use mathlib.Core.Path.{◌≡◌, refl, sym, ◌∙◌}
-use Prim.Native.Nat.{◌+◌, ◌*◌, ◌-◌, ◌≤◌}
-use native.Mathlib.Omega.{arith}
-use lib.ListN.{length, drop, get_or}
+-- The invariant of `line::decimal`: reading on from here gives what reading from the start does. Assumes nothing.
+use mathlib.Core.Path.{◌≡◌}
+use Prim.Native.Nat.{◌-◌, ◌≤◌}
+use lib.ListN.{length, drop}
 use Rattle.text.specs.Lines.{decimal_at}
-use Rattle.text.proofs.Reading.{by_byte, too_large_lem, behind_zero, one_more, decimal_step, decimal_end}
 use Rattle.text.proofs.line.decimal.Given as goal
 
 abbrev pub invariant-loop-j : goal.invariant-loop-j

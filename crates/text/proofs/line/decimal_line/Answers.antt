@@ -1,4 +1,4 @@
-use borrow.Author.Rules.{rules}
+-- `line::decimal_line` meets its contract. Assumes nothing.
 use Rattle.text.specs.Lines.{decimal_line_at}
 use Rattle.text.proofs.line.decimal_line.Goals as goal
 

@@ -1,4 +1,4 @@
-use borrow.Author.Rules.{rules}
+-- `line::digit_of` meets its contract. Assumes nothing.
 use mathlib.Core.Path.{sym}
 use Rattle.text.specs.Laws.Lines.{below_figures, figure, below_letters, letter, above_letters}
 use Rattle.text.proofs.line.digit_of.Goals as goal

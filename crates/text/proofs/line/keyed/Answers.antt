@@ -1,7 +1,6 @@
-use borrow.Author.Rules.{rules}
-use borrow.Author.Tests.{not-true, not-false, lt-ltb, le-ltb}
+-- `line::keyed` meets its contract. Assumes nothing.
 use mathlib.Core.Path.{◌≡◌, sym, ◌∙◌, ap}
-use mathlib.Core.Bool.{true, false}
+use mathlib.Core.Bool.{true}
 use native.Mathlib.Omega.{arith}
 use lib.ListN.{length, drop, length-drop}
 use Rattle.text.specs.declared.line.Line.TheVariants.{Good}
@@ -9,30 +8,25 @@ use Rattle.text.specs.Lines.{begins, decimal_at}
 use Rattle.text.specs.Laws.Lines.{key_fits, tail}
 use Rattle.text.proofs.Reading.{decimal_room}
 use Rattle.text.proofs.line.keyed.Goals as goal
+use Rattle.text.proofs.line.keyed.Goals.{Else-not-starts, In-Good}
 
 -- the key is there
-key : (c : goal.Else-not-starts) → begins c.args.s.now c.args.key.now ≡ true
-key c = sym c.starts.ensures ∙ not-false _ c.if-not-starts.false
+key : (c : Else-not-starts) → begins c.args.s.now c.args.key.now ≡ true
+key c = sym c.starts.ensures ∙ c.if-not-starts.false
 
--- the number behind the key
-number : (c : goal.After-decimal)
+-- the number behind the key: its value and its length
+value : (c : In-Good)
     → let a = c.args in
-    c.decimal.result ≡ decimal_at a.end a.most 0 0 (drop (length a.key.now) a.s.now)
-number c =
+    decimal_at a.end a.most 0 0 (drop (length a.key.now) a.s.now) ≡ Good c.in-Good.v c.in-Good.n
+value c =
     let a = c.args in
-    c.decimal.ensures ∙ ap (decimal_at a.end a.most 0 0) (tail a.s.now (length a.key.now))
-
--- its value and its length
-value : (c : goal.In-Good-2)
-    → let a = c.args in
-    decimal_at a.end a.most 0 0 (drop (length a.key.now) a.s.now) ≡ Good c.v-1.given.0.0 c.v-1.given.0.1.0
-value c = sym (number c.before) ∙ c.v-1.given.1
+    sym (c.in-Good.ensures ∙ ap (decimal_at a.end a.most 0 0) (tail a.s.now (length a.key.now)))
 
 pub slice_bounds-decimal-count : goal.slice_bounds-decimal-count
-slice_bounds-decimal-count c = key_fits _ _ (key c)
+slice_bounds-decimal-count c = key_fits _ _ (key (goal.at.slice_bounds-decimal-count c).Else-not-starts)
 
 pub slice_bounds-decimal-start : goal.slice_bounds-decimal-start
-slice_bounds-decimal-start c = ?
+slice_bounds-decimal-start c = key_fits _ _ (key (goal.at.slice_bounds-decimal-start c).Else-not-starts)
 
 pub overflow_add-result : goal.overflow_add-result
 overflow_add-result c =
@@ -40,7 +34,7 @@ overflow_add-result c =
     omega (
       arith,
       c.well_formed.0.0,
-      key_fits a.s.now a.key.now (key c.before),
-      decimal_room a.end a.most (drop (length a.key.now) a.s.now) _ _ (value c.before),
+      key_fits a.s.now a.key.now (key (goal.at.overflow_add-result c).Else-not-starts),
+      decimal_room a.end a.most (drop (length a.key.now) a.s.now) _ _ (value (goal.at.overflow_add-result c).In-Good),
       length-drop (length a.key.now) a.s.now,
     )

@@ -1,6 +1,5 @@
-use borrow.Author.Rules.{rules}
+-- `line::row` meets its contract. Assumes nothing.
 use mathlib.Core.Path.{◌≡◌, refl, sym, ◌∙◌, ap}
-use Prim.Native.Nat.{◌-◌, ◌≤◌}
 use native.Mathlib.Omega.{arith}
 use lib.ListN.{get_or}
 use Rattle.text.specs.declared.line.Digit.TheVariants.{Value}
@@ -8,17 +7,11 @@ use Rattle.text.specs.Lines.{hex_at, digit_at}
 use Rattle.text.specs.Laws.Lines.{digit_only}
 use Rattle.text.proofs.Reading.{hex-step, hex_stop, hex_room}
 use Rattle.text.proofs.line.row.Goals as goal
-
--- what `digit_of` was asked, and what it answered
-answer : (c : goal.After-digit_of)
-    → c.digit_of.result ≡ digit_at (get_or c.args.s.now c.loop-j.j 0)
-answer c = c.digit_of.ensures ∙ ap digit_at c.byte_at.ensures
+use Rattle.text.proofs.line.row.Goals.{In-Value}
 
 -- the digit that was read
-read : (c : goal.In-Value-2)
-    → digit_at (get_or c.args.s.now c.loop-j.j 0)
-    ≡ Value c.d-1.given.0.0
-read c = sym (answer c.before) ∙ c.d-1.given.1
+read : (c : In-Value) → digit_at (get_or c.args.s.now c.loop-j.j 0) ≡ Value c.in-Value.d
+read c = sym (c.in-Value.ensures ∙ ap digit_at c.byte_at.ensures)
 
 pub loop-j-init : goal.loop-j-init
 unfolding hex_at
@@ -28,7 +21,7 @@ pub returns-in_default : goal.returns-in_default
 returns-in_default c =
     let l = c.loop-j in
     let s = c.args.s.now in
-    sym (hex_stop _ l.j l.v s (omega arith) l.invariant.1 (sym (answer c.before) ∙ c.enum_told-1.given.1))
+    sym (hex_stop _ l.j l.v s (omega arith) l.invariant.1 (sym (c.in_default.ensures ∙ ap digit_at c.byte_at.ensures)))
 
 pub overflow_mul-v : goal.overflow_mul-v
 overflow_mul-v c =
@@ -40,10 +33,10 @@ pub overflow_add-v : goal.overflow_add-v
 overflow_add-v c =
     let l = c.loop-j in
     let s = c.args.s.now in
-    omega (arith, hex_room l.j l.v s (omega arith) l.invariant.1, (digit_only _ _ (read c.before)).0)
+    omega (arith, hex_room l.j l.v s (omega arith) l.invariant.1, (digit_only _ _ (read (goal.at.overflow_add-v c).In-Value)).0)
 
 pub loop-j-preserved : goal.loop-j-preserved
 loop-j-preserved c =
     let l = c.loop-j in
     let s = c.args.s.now in
-    (omega arith, hex-step l.j l.v _ s l.invariant.1 (read c.before))
+    (omega arith, hex-step l.j l.v _ s l.invariant.1 (read (goal.at.loop-j-preserved c).In-Value))

@@ -1,12 +1,8 @@
-use borrow.Author.Rules.{rules}
-use mathlib.Core.Path.{◌≡◌, refl, sym, ◌∙◌, ap}
+-- The invariant of `line::row`: the bytes passed are digits, and make v. Assumes nothing.
+use mathlib.Core.Path.{◌≡◌}
 use Prim.Native.Nat.{◌-◌, ◌≤◌}
-use native.Mathlib.Omega.{arith}
-use lib.ListN.{get_or}
 use Rattle.text.specs.declared.line.Digit.TheVariants.{Value}
-use Rattle.text.specs.Lines.{hex_at, digit_at}
-use Rattle.text.specs.Laws.Lines.{digit_only}
-use Rattle.text.proofs.Reading.{hex-step, hex_stop, hex_room}
+use Rattle.text.specs.Lines.{hex_at}
 use Rattle.text.proofs.line.row.Given as goal
 
 abbrev pub invariant-loop-j : goal.invariant-loop-j

@@ -1,10 +1,8 @@
-use borrow.Author.Rules.{rules}
+-- `line::starts` meets its contract. Assumes nothing.
 use borrow.Author.Tests.{ne_eqb, eq-eqb}
-use mathlib.Core.Path.{◌≡◌, refl, sym, ◌∙◌}
-use Prim.Native.Nat.{◌-◌, ◌≤◌}
+use mathlib.Core.Path.{sym, ◌∙◌}
 use native.Mathlib.Omega.{arith}
-use lib.ListN.{length, drop}
-use Rattle.text.specs.Lines.{begins}
+use lib.ListN.{drop}
 use Rattle.text.proofs.Reading.{begins-step, begins_short, begins-all}
 use Rattle.text.proofs.line.starts.Goals as goal
 

@@ -1,11 +1,9 @@
-use borrow.Author.Rules.{rules}
-use borrow.Author.Tests.{ne_eqb, eq-eqb}
-use mathlib.Core.Path.{◌≡◌, refl, sym, ◌∙◌}
+-- The invariant of `line::starts`: what is left of the text begins with what is left of the key just where the text begins with the key.
+-- Assumes nothing.
+use mathlib.Core.Path.{◌≡◌}
 use Prim.Native.Nat.{◌-◌, ◌≤◌}
-use native.Mathlib.Omega.{arith}
 use lib.ListN.{length, drop}
 use Rattle.text.specs.Lines.{begins}
-use Rattle.text.proofs.Reading.{begins-step, begins_short, begins-all}
 use Rattle.text.proofs.line.starts.Given as goal
 
 abbrev pub invariant-loop-j : goal.invariant-loop-j

@@ -1,7 +1,7 @@
-use borrow.Author.Rules.{rules}
-use borrow.Author.Tests.{not-true, not-false, leb-true}
-use mathlib.Core.Path.{◌≡◌, refl, sym, ◌∙◌}
-use mathlib.Core.Bool.{true, false}
+-- `piece::put` meets its contract: nothing where there is no room, and else the whole piece. Assumes nothing.
+use borrow.Author.Tests.{leb-true}
+use mathlib.Core.Path.{◌≡◌, sym, ◌∙◌}
+use mathlib.Core.Bool.{false}
 use Prim.Native.Nat.{◌+◌, ◌≤◌}
 use lib.Dec.{leb}
 use lib.ListN.{length}
@@ -9,21 +9,16 @@ use Rattle.text.specs.Placed.{placed, place_behind}
 use Rattle.text.specs.Laws.Placed.{placed-fits, behind-fits}
 use Rattle.text.proofs.piece.put.Goals as goal
 
--- there is room
-room : (c : goal.Else-not-has_room)
-    → let a = c.args in
-    a.at + length a.text.now ≤ length a.out.now
-room c = leb-true _ _ (sym c.has_room.ensures ∙ not-false _ c.if-not-has_room.false)
-
 pub returns-then-not-has_room : goal.returns-then-not-has_room
 unfolding placed place_behind
 returns-then-not-has_room c =
     let a = c.args in
-    let e : leb (a.at + length a.text.now) (length a.out.now) ≡ false = sym c.has_room.ensures ∙ not-true _ c.if-not-has_room.true in
-    rw e (refl, refl)
+    let e : leb (a.at + length a.text.now) (length a.out.now) ≡ false = sym c.has_room.ensures ∙ c.if-not-has_room.true in
+    record { value = rw e; out_after = rw e }
 
 pub returns : goal.returns
 returns c =
+    let a = c.args in
     let q = c.copy.ensures in
-    let h = room c.before in
-    (q.0 ∙ sym (behind-fits _ _ _ h), q.1 ∙ sym (placed-fits _ _ _ h))
+    let h : a.at + length a.text.now ≤ length a.out.now = leb-true _ _ (sym c.has_room.ensures ∙ c.if-not-has_room.false) in
+    record { value = q.0 ∙ sym (behind-fits _ _ _ h); out_after = q.1 ∙ sym (placed-fits _ _ _ h) }

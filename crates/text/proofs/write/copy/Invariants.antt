@@ -1,11 +1,8 @@
-use borrow.Author.Rules.{rules}
-use native.Mathlib.Omega.{arith}
-use native.Mathlib.Nat.{add-zero}
-use mathlib.Core.Path.{◌≡◌, refl, sym, ◌∙◌}
-use Prim.Native.Nat.{ℕ, ◌+◌, ◌-◌, ◌≤◌}
-use lib.ListN.{length, drop, length-set}
+-- The invariant of `write::copy`: storing the bytes that are left leaves what storing all of them at the start would. Assumes nothing.
+use mathlib.Core.Path.{◌≡◌}
+use Prim.Native.Nat.{◌+◌, ◌-◌, ◌≤◌}
+use lib.ListN.{length, drop}
 use lib.Seq.{sets}
-use Rattle.laws.specs.Laws.Lists.{store_next, store_end}
 use Rattle.text.proofs.write.copy.Given as goal
 
 abbrev pub invariant-loop-j : goal.invariant-loop-j

@@ -1,9 +1,8 @@
-use borrow.Author.Rules.{rules}
+-- `write::hex_digits` meets its contract. Assumes nothing.
 use native.Mathlib.Omega.{arith}
 use mathlib.Core.Path.{◌≡◌, refl, sym, ap, ◌∙◌}
-use mathlib.Core.List.{List}
-use Prim.Native.Nat.{ℕ, suc, ◌+◌, ◌-◌, ◌≤◌}
-use lib.ListN.{length, length-set}
+use Prim.Native.Nat.{ℕ, suc, ◌-◌}
+use lib.ListN.{length-set}
 use lib.Seq.{sets}
 use Rattle.text.specs.Text.{hex}
 use Rattle.text.proofs.Digits.{digit-next}

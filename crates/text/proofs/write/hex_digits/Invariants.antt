@@ -1,12 +1,9 @@
-use borrow.Author.Rules.{rules}
-use native.Mathlib.Omega.{arith}
-use mathlib.Core.Path.{◌≡◌, refl, sym, ap, ◌∙◌}
-use mathlib.Core.List.{List}
-use Prim.Native.Nat.{ℕ, suc, ◌+◌, ◌-◌, ◌≤◌}
-use lib.ListN.{length, length-set}
+-- The invariant of `write::hex_digits`: writing the digits that are left leaves what writing all of them at the start would. Assumes nothing.
+use mathlib.Core.Path.{◌≡◌}
+use Prim.Native.Nat.{◌≤◌}
+use lib.ListN.{length}
 use lib.Seq.{sets}
 use Rattle.text.specs.Text.{hex}
-use Rattle.text.proofs.Digits.{digit-next}
 use Rattle.text.proofs.write.hex_digits.Given as goal
 
 abbrev pub invariant-loop-j : goal.invariant-loop-j

@@ -1,17 +1,10 @@
-use borrow.Author.Rules.{rules}
-use native.Mathlib.Omega.{arith}
-use mathlib.Core.Path.{◌≡◌, refl, sym, ap, ◌∙◌}
-use mathlib.Core.List.{[], ◌∷◌}
-use Prim.Native.Nat.{ℕ, ◌+◌, ◌*◌, ◌-◌, ◌<◌, ◌≤◌}
-use lib.IntN.{pos}
-use lib.ListN.{length, get_or, drop, length-append}
+-- The invariant of `write::list`: writing the numbers that are left, each behind a comma, leaves what writing all of them behind the first
+-- would. Assumes nothing.
+use mathlib.Core.Path.{◌≡◌}
+use Prim.Native.Nat.{◌+◌, ◌*◌, ◌-◌, ◌≤◌}
+use lib.ListN.{length, drop}
 use lib.Seq.{sets}
-use mir.Syntax.{w32}
-use mir.Val.{SFits, to_z, of_z}
-use mir.Facts.{to_z-of_z}
-use Rattle.laws.specs.Laws.Lists.{sets-append}
-use Rattle.text.specs.Text.{signed, commas}
-use Rattle.text.proofs.Rows.{row-length, row_next, commas_end, listed-first}
+use Rattle.text.specs.Text.{commas}
 use Rattle.text.proofs.write.list.Given as goal
 
 abbrev pub invariant-loop-j : goal.invariant-loop-j
