@@ -3,7 +3,7 @@
 -- coordinate; if the sum of k has the wrong parity, step the coordinate whose rounding is least sure, where
 -- that costs least. A base within the bound answers its section; the distance of any other is a lower bound
 -- on what the section can have.
-use Rattle.std.specs.Prelude.{Bool, true, false, cond, List, [], ◌∷◌, ℕ, zero, suc, ◌+◌, ◌-◌, ◌*◌, ◌%◌, ◌^◌, ℤ, pos, negsuc, get_or, eqb, Float}
+use Rattle.std.specs.Prelude.{cond, List, ℕ, zero, suc, ◌+◌, ◌-◌, ◌*◌, ◌%◌, ◌^◌, ℤ, pos, get_or, eqb}
 use Rattle.std.specs.Int.Signed.{lt_z}
 use Rattle.std.specs.Int.Bits.{bit_and, bit_or}
 use Rattle.std.specs.Float.{nan, binary64}

@@ -2,7 +2,7 @@
 -- The idea: an entry is what the join knows of a section. An end has one for each class and state, the middle
 -- one for each byte and class. It starts with what is cheap, bases and fallback: exact where the nearest of
 -- them has a row, else a lower bound. Resolved in full, it has run the candidate rule and is exact.
-use Rattle.std.specs.Prelude.{Bool, true, false, cond, ◌&&◌, List, [], ◌∷◌, ℕ, zero, suc, ◌+◌, ◌*◌, ◌/◌, ◌%◌, ◌^◌, ℤ, pos, get_or, eqb, Float}
+use Rattle.std.specs.Prelude.{Bool, true, false, cond, ◌&&◌, List, ℕ, zero, suc, ◌+◌, ◌*◌, ◌/◌, ◌%◌, ◌^◌, ℤ, get_or, Float}
 use Rattle.std.specs.Float.{nan, binary64}
 use Rattle.std.specs.Float.Ieee.{add, lt}
 use Rattle.rank.specs.Coord.{val_of}

@@ -1,7 +1,7 @@
 -- The best path by the entries' values: `join` of encoder.rs. Definitions only.
 -- The idea: three sections make a point where their states and classes fit, which they do along 4,096 paths.
 -- A path costs the sum of its three entries, and the first of the cheapest wins.
-use Rattle.std.specs.Prelude.{Bool, true, false, cond, ◌&&◌, List, [], ◌∷◌, ℕ, zero, suc, ◌+◌, ◌*◌, ◌/◌, ◌%◌, get_or, Float}
+use Rattle.std.specs.Prelude.{Bool, false, cond, ◌&&◌, List, ℕ, zero, suc, ◌+◌, ◌*◌, ◌/◌, ◌%◌, get_or, Float}
 use Rattle.std.specs.Float.{nan, binary64}
 use Rattle.std.specs.Float.Ieee.{add, lt, le}
 use Rattle.search.specs.declared.Entry.{Entry}

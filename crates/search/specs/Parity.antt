@@ -3,7 +3,7 @@
 -- over all paths then says which of the entries that are mere lower bounds may lie on a cheaper one. Those
 -- are resolved late and the others dropped: no path through them costs less than u. docs/ALGORITHM.md says
 -- why nothing is lost.
-use Rattle.std.specs.Prelude.{Bool, true, false, cond, not, ◌&&◌, ◌||◌, List, [], ◌∷◌, ℕ, zero, suc, ◌+◌, ◌*◌, ◌/◌, ◌%◌, get_or, set, Float}
+use Rattle.std.specs.Prelude.{Bool, true, false, cond, not, ◌&&◌, ◌||◌, List, [], ◌∷◌, ℕ, zero, suc, ◌/◌, ◌%◌, get_or, set, Float}
 use Rattle.std.specs.Float.{nan}
 use Rattle.std.specs.Float.Ieee.{lt}
 use Rattle.laws.specs.Words.{tab}
@@ -15,7 +15,7 @@ use Rattle.search.specs.declared.Winner.{Winner}
 use Rattle.search.specs.Solve.{infinity}
 use Rattle.search.specs.Tables.{Tables}
 use Rattle.search.specs.Entries.{Rule, infeasible, end_resolve, mid_resolve, end_start, mid_start}
-use Rattle.search.specs.Join.{Sides, ent_at, no_entry, way_at, join, all_exact}
+use Rattle.search.specs.Join.{Sides, ent_at, way_at, join, all_exact}
 
 -- the targets of the three sections, in trio order
 pub record Targets : Type 0 where

@@ -3,9 +3,9 @@
 -- The idea: the search asks the same of each coordinate again and again: between which numbers o + 4k its
 -- target lies, what the five nearest of them weigh, how far away they are. So that is worked out once, for
 -- each shrink and for both bits that a byte can have there. What follows only picks and adds.
-use Rattle.std.specs.Prelude.{Bool, true, false, cond, List, [], ◌∷◌, ℕ, zero, suc, ◌+◌, ◌*◌, ◌/◌, ◌%◌, ◌^◌, ℤ, pos, negsuc, ◌+ℤ◌, ◌-ℤ◌, ◌*ℤ◌, get_or, Float}
+use Rattle.std.specs.Prelude.{false, cond, List, [], ◌∷◌, ℕ, ◌+◌, ◌*◌, ◌/◌, ◌%◌, ◌^◌, ℤ, pos, negsuc, ◌+ℤ◌, ◌-ℤ◌, ◌*ℤ◌, get_or, Float}
 use Rattle.std.specs.Float.{nan, fin, binary64}
-use Rattle.std.specs.Float.Ieee.{add, sub, mul, div, lt, of_int, of_bits}
+use Rattle.std.specs.Float.Ieee.{sub, mul, div, lt, of_int, of_bits}
 use Rattle.laws.specs.Words.{tab}
 use Rattle.rank.specs.Vector.{sq}
 use Rattle.rank.specs.Answers.{mark_of}

@@ -2,7 +2,7 @@
 -- The idea: a base that has no row lies too far out. So vectors beside it are tried, two coordinates stepped
 -- at a time so that the class stays, and then the same about targets drawn toward zero, whose vectors are
 -- cheaper. Kept is the nearest one within the bound, by its distance to the target itself.
-use Rattle.std.specs.Prelude.{Bool, true, false, cond, ◌&&◌, List, [], ◌∷◌, ℕ, zero, suc, ◌+◌, ◌-◌, ◌*◌, ◌/◌, ◌%◌, ◌^◌, ℤ, pos, negsuc, get_or, eqb, Float}
+use Rattle.std.specs.Prelude.{true, false, cond, ◌&&◌, List, ℕ, zero, suc, ◌+◌, ◌-◌, ◌*◌, ◌/◌, ◌%◌, ◌^◌, ℤ, get_or, eqb, Float}
 use Rattle.std.specs.Int.Bits.{bit_and, bit_or}
 use Rattle.std.specs.Float.{nan, inf, binary64}
 use Rattle.std.specs.Float.Ieee.{add, sub, lt, le}

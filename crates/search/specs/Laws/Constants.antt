@@ -1,7 +1,7 @@
 -- The constants of the search by what they are: the shrinks by their decimals, how many of them a setting runs, the
 -- two seed joins, the order of the parities, the last of the sixteen paired steps. Were one of them changed in the
 -- definition and in the code together, the statement here would be false. Assumes nothing.
-use Rattle.std.specs.Prelude.{◌≡◌, Bool, true, false, cond, not, ◌&&◌, ◌||◌, List, [], ◌∷◌, map, ℕ, ◌<◌, ◌≤◌, ltb, pos, Float}
+use Rattle.std.specs.Prelude.{◌≡◌, Bool, true, false, cond, not, ◌&&◌, ◌||◌, List, [], ◌∷◌, map, ℕ, ◌≤◌, ltb, pos, Float}
 use Rattle.std.proofs.Math.Path.{refl, ap}
 use Rattle.std.proofs.Common.{ap₂, sym, subst, ◌∙◌, arith, lt-ltb, le-ltb, ltb-false}
 use Rattle.std.specs.Float.{fin, binary64}

@@ -7,7 +7,6 @@ use Rattle.rank.specs.Vector.{bound_cost, bound_cut, middle_cost, middle_cut}
 use Rattle.trellis.specs.Tables.{middles}
 use Rattle.trellis.specs.Trellis.{middle_of, middle_sets}
 use Rattle.trellis.specs.Laws.Rows.{zero_middles, set_firsts, middle-sum, middle-read}
-use Rattle.search.specs.declared.Closed.{Closed}
 use Rattle.search.specs.Bound.{lex_num}
 use Rattle.search.specs.Tables.{tables, branch_entries}
 
