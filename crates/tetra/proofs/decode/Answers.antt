@@ -1,6 +1,5 @@
 -- `tetra::decode`. Assumes nothing.
 use mathlib.Core.Path.{ap, ◌∙◌}
-use borrow.Author.Rules.{rules}
 use Rattle.tetra.specs.Tetra.{natural, point_of}
 use Rattle.tetra.proofs.decode.Goals as goal
 

@@ -1,6 +1,5 @@
 -- `tetra::decode_trio_order`: the fields of a word fit. Assumes nothing.
 use mathlib.Core.Path.{ap, ◌∙◌}
-use borrow.Author.Rules.{rules}
 use Rattle.word.specs.Laws.{split-narrow}
 use Rattle.tetra.specs.Tetra.{trio_point, trio_point_of}
 use Rattle.tetra.proofs.decode_trio_order.Goals as goal

@@ -1,8 +1,7 @@
 -- `tetra::marks`: the marks set so far. Assumes nothing.
-use mathlib.Core.Path.{◌≡◌, refl, ap, sym, ◌∙◌}
-use Prim.Native.Nat.{ℕ, ◌+◌, ◌*◌, ◌-◌}
+use mathlib.Core.Path.{◌≡◌, ap, sym, ◌∙◌}
+use Prim.Native.Nat.{ℕ, ◌+◌, ◌*◌}
 use native.Mathlib.Omega.{arith}
-use borrow.Author.Count.{below_none}
 use borrow.Author.Rules.{rules}
 use mir.Syntax.{w32}
 use mir.Val.{SFits}
@@ -10,7 +9,7 @@ use mir.Facts.{to_z-of_z}
 use lib.ListN.{length, get_or, take, drop}
 use lib.IntN.{pos}
 use Rattle.rank.specs.Answers.{mark_of, marks_of}
-use Rattle.tetra.proofs.Rows.{Laid, laid_more, laid_all, marks-at, marks-length}
+use Rattle.tetra.proofs.Rows.{laid_more, laid_all, marks-at, marks-length}
 use Rattle.tetra.proofs.marks.Goals as goal
 
 pub loop-j-preserved : goal.loop-j-preserved

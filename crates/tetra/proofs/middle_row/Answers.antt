@@ -1,7 +1,6 @@
 -- `tetra::middle_row`. Assumes nothing.
 use native.Mathlib.Omega.{arith}
 use borrow.Author.Tests.{lt-ltb, le-ltb}
-use borrow.Author.Rules.{rules}
 use Rattle.rows.specs.Table.{middle_row}
 use Rattle.tetra.proofs.middle_row.Goals as goal
 

@@ -1,9 +1,8 @@
 -- `tetra::patterns`: the bytes are cut out by masks. Assumes nothing.
 use mathlib.Core.Path.{◌≡◌, ap, ◌∙◌}
-use Prim.Native.Nat.{ℕ, ◌/◌, ◌%◌, ◌^◌, ◌-◌, ◌<◌}
+use Prim.Native.Nat.{ℕ, ◌/◌, ◌%◌, ◌^◌, ◌<◌}
 use native.Mathlib.Nat.{mod-eq_of_lt}
 use native.Mathlib.Omega.{arith}
-use borrow.Author.Rules.{rules}
 use lib.Bits.{and_mask, bit_and}
 use Rattle.word.specs.Word.{Narrow, fields_of}
 use Rattle.word.specs.Laws.{split-narrow}

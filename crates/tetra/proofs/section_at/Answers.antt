@@ -1,6 +1,4 @@
 -- `tetra::section_at`: no rank of a row is above 4. Assumes nothing.
-use borrow.Author.Rules.{rules}
-use Rattle.rank.specs.Vector.{unpack}
 use Rattle.rows.specs.Table.{row_ranks}
 use Rattle.tetra.specs.Laws.Point.{row_small}
 use Rattle.tetra.proofs.section_at.Goals as goal

@@ -1,8 +1,7 @@
 -- `tetra::section_of`: the coordinates laid out so far. Assumes nothing.
-use mathlib.Core.Path.{◌≡◌, refl, ap, sym, ◌∙◌}
-use Prim.Native.Nat.{ℕ, ◌+◌, ◌*◌, ◌/◌, ◌^◌, ◌-◌}
+use mathlib.Core.Path.{◌≡◌, ap, sym, ◌∙◌}
+use Prim.Native.Nat.{ℕ, ◌+◌, ◌*◌, ◌/◌, ◌^◌}
 use native.Mathlib.Omega.{arith}
-use borrow.Author.Count.{below_none}
 use borrow.Author.Rules.{rules}
 use mir.Syntax.{w32}
 use mir.Val.{SFits}
@@ -15,7 +14,7 @@ use Rattle.rank.specs.Section.{point_at}
 use Rattle.rank.specs.Laws.Section.{point-length}
 use Rattle.rank.specs.Laws.Vector.{below_at_lem}
 use Rattle.tetra.specs.Laws.Point.{point_at_lem}
-use Rattle.tetra.proofs.Rows.{Laid, laid_more, laid_all}
+use Rattle.tetra.proofs.Rows.{laid_more, laid_all}
 use Rattle.tetra.proofs.section_of.Goals as goal
 
 pub value-requires : goal.value-requires
@@ -30,14 +29,14 @@ loop-j-preserved c =
     let l = c.loop-j in
     let a = c.args in
     let f : SFits w32 c.value.result = search rules in
-    laid_more ℤ (pos 0) (point_at a.p a.c a.t3) 8 l.out l.j _ l.invariant (omega arith)
-    (to_z-of_z f ∙ c.value.ensures ∙ ap (λ (b : ℕ). val_of (a.p + 2 * b) (get_or a.t3 l.j 0)) (and_mask (a.c / 2 ^ l.j) 1)
-    ∙ sym (point_at_lem a.p a.c a.t3 l.j (omega arith)))
+    laid_more ℤ (pos 0) (point_at a.p a.c a.rho) 8 l.out l.j _ l.invariant (omega arith)
+    (to_z-of_z f ∙ c.value.ensures ∙ ap (λ (b : ℕ). val_of (a.p + 2 * b) (get_or a.rho l.j 0)) (and_mask (a.c / 2 ^ l.j) 1)
+    ∙ sym (point_at_lem a.p a.c a.rho l.j (omega arith)))
 
 pub returns : goal.returns
 returns c =
     let l = c.loop-j in
     let a = c.args in
-    let e : length a.t3 ≡ 8 = search rules in
-    laid_all ℤ (pos 0) (point_at a.p a.c a.t3) 8 l.out l.j l.invariant (omega arith)
-    (point-length a.p a.c a.t3 ∙ e)
+    let e : length a.rho ≡ 8 = search rules in
+    laid_all ℤ (pos 0) (point_at a.p a.c a.rho) 8 l.out l.j l.invariant (omega arith)
+    (point-length a.p a.c a.rho ∙ e)

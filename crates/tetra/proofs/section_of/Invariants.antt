@@ -1,21 +1,8 @@
 -- `tetra::section_of`: the coordinates laid out so far. Assumes nothing.
-use mathlib.Core.Path.{◌≡◌, refl, ap, sym, ◌∙◌}
-use Prim.Native.Nat.{ℕ, ◌+◌, ◌*◌, ◌/◌, ◌^◌, ◌-◌}
-use native.Mathlib.Omega.{arith}
-use borrow.Author.Count.{below_none}
-use borrow.Author.Rules.{rules}
-use mir.Syntax.{w32}
-use mir.Val.{SFits}
-use mir.Facts.{to_z-of_z}
-use lib.ListN.{length, get_or}
-use lib.IntN.{ℤ, pos}
-use lib.Bits.{and_mask}
-use Rattle.rank.specs.Coord.{val_of}
+use Prim.Native.Nat.{◌-◌}
+use lib.IntN.{pos}
 use Rattle.rank.specs.Section.{point_at}
-use Rattle.rank.specs.Laws.Section.{point-length}
-use Rattle.rank.specs.Laws.Vector.{below_at_lem}
-use Rattle.tetra.specs.Laws.Point.{point_at_lem}
-use Rattle.tetra.proofs.Rows.{Laid, laid_more, laid_all}
+use Rattle.tetra.proofs.Rows.{Laid}
 use Rattle.tetra.proofs.section_of.Given as goal
 
 abbrev pub invariant-loop-j : goal.invariant-loop-j

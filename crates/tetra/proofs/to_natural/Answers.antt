@@ -1,9 +1,7 @@
 -- `tetra::to_natural`: the coordinates set so far. Assumes nothing.
-use mathlib.Core.Path.{refl, ap, sym, ◌∙◌}
-use Prim.Native.Nat.{ℕ, ◌-◌}
+use mathlib.Core.Path.{ap, sym, ◌∙◌}
+use Prim.Native.Nat.{ℕ}
 use native.Mathlib.Omega.{arith}
-use borrow.Author.Count.{below_none}
-use borrow.Author.Rules.{rules}
 use mir.Syntax.{w32}
 use mir.Val.{SFits}
 use mir.Facts.{to_z-of_z}
@@ -12,7 +10,7 @@ use lib.IntN.{ℤ, pos}
 use Rattle.trellis.specs.Laws.Trio.{trio-fits}
 use Rattle.tetra.specs.Tetra.{natural}
 use Rattle.tetra.specs.Laws.Orders.{natural-at, natural-length}
-use Rattle.tetra.proofs.Rows.{Laid, laid_more, laid_all}
+use Rattle.tetra.proofs.Rows.{laid_more, laid_all}
 use Rattle.tetra.proofs.to_natural.Goals as goal
 
 pub offset_bounds-t-j : goal.offset_bounds-t-j

@@ -1,7 +1,5 @@
 -- `tetra::trio_point`: three sections, each with its byte and its row. Assumes nothing.
 use mathlib.Core.Path.{◌∙◌}
-use native.Mathlib.Omega.{arith}
-use borrow.Author.Rules.{rules}
 use Rattle.tetra.proofs.Decoding.{laid}
 use Rattle.tetra.proofs.trio_point.Goals as goal
 

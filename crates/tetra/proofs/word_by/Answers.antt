@@ -1,8 +1,6 @@
 -- `tetra::word_by`: fields that fit are joined. Assumes nothing.
 use mathlib.Core.Path.{◌≡◌, ap, ◌∙◌}
-use Prim.Native.Nat.{ℕ, ◌/◌, ◌-◌}
-use native.Mathlib.Omega.{arith}
-use borrow.Author.Rules.{rules}
+use Prim.Native.Nat.{ℕ, ◌/◌}
 use lib.Bits.{and_mask, bit_and}
 use Rattle.word.specs.Word.{join_of}
 use Rattle.word.specs.Laws.{join-accepts}

@@ -12,7 +12,7 @@ use Rattle.refusal.specs.Refusal.{mixed_parity, no_codeword, outside, wrong_sum}
 use Rattle.word.specs.Word.{word_of}
 use Rattle.rank.specs.Vector.{in_middle}
 use Rattle.rank.specs.Section.{bits_of, k_sum}
-use Rattle.tetra.specs.Lattice.{trio, section_ranks, in_own_class, in_bound, HasWord}
+use Rattle.tetra.specs.Lattice.{trio, section_ranks, in_own_class, in_bound}
 use Rattle.tetra.specs.Encode.{parity_at, one_parity, label_for, in_code, right_sum, fields_for, encode_of}
 use Rattle.tetra.specs.Why.{OfParity, InCode, Inside, Why, has_word, mixed_parity_lem, no_codeword_lem, outside-bound, wrong_sum_lem}
 use Rattle.tetra.specs.Laws.Orders.{uniform-at, at-uniform}
