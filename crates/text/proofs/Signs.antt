@@ -2,28 +2,20 @@
 use mathlib.Core.Path.{◌≡◌, refl}
 use mathlib.Core.Bool.{true, false}
 use mathlib.Core.List.{◌∷◌}
-use Prim.Native.Nat.{ℕ, suc}
+use Prim.Native.Nat.{ℕ}
 use native.Mathlib.Omega.{arith}
 use borrow.Author.Tests.{ltb-true}
-use lib.IntN.{ℤ, pos, negsuc, ◌-ℤ◌, nat_abs, +ℤ_idl}
+use lib.IntN.{ℤ, pos, negsuc, nat_abs}
 use lib.Signed.{lt_z}
 use Rattle.text.specs.Text.{decimal, signed}
 
 -- ---- below zero
-pub turned : (y : ℤ) → lt_z y (pos 0) ≡ true → pos 0 -ℤ y ≡ pos (nat_abs y)
-turned (pos n) e = absurd (omega (arith, ltb-true n 0 e))
-turned (negsuc n) e = +ℤ_idl (pos (suc n))
-
 pub signed_below : (z : ℤ) → lt_z z (pos 0) ≡ true → signed z ≡ 45 ∷ decimal (nat_abs z)
 unfolding signed
 signed_below (pos n) e = absurd (omega (arith, ltb-true n 0 e))
 signed_below (negsuc n) e = refl
 
 -- ---- not below zero
-pub upright : (y : ℤ) → lt_z y (pos 0) ≡ false → y ≡ pos (nat_abs y)
-upright (pos n) e = refl
-upright (negsuc n) e = let z : ◌≡◌ {A = ℕ} 0 1 = cc in absurd (omega arith)
-
 pub signed_above : (z : ℤ) → lt_z z (pos 0) ≡ false → signed z ≡ decimal (nat_abs z)
 unfolding signed
 signed_above (pos n) e = refl
