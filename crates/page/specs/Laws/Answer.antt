@@ -3,9 +3,7 @@ use Rattle.std.specs.Prelude.{◌≡◌, refl, List, ◌++◌, ℕ, ◌*◌, ◌
 use Rattle.std.proofs.Common.{ap, sym, ◌∙◌, arith, le-ltb}
 use Rattle.std.proofs.Math.Seq.{take-append_seam}
 use Rattle.page.specs.declared.Parsed.{Parsed}
-use Rattle.page.specs.declared.PageRead.{PageRead}
 use Rattle.page.specs.Answer.{Reading, page, malformed, number_in, words_in, counts_in, parsed_of, read_of, cells_of}
-use Rattle.page.specs.Counts.{page_counts}
 use Rattle.page.specs.Laws.Count.{page-length}
 use Rattle.page.specs.Reader.{reading_of}
 use Rattle.page.specs.PageRule.{only_pages}

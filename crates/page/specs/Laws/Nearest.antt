@@ -2,7 +2,7 @@
 -- no other number is both. First for magnitudes, then with a sign. Assumes nothing.
 use Rattle.std.specs.Prelude.{◌≡◌, refl, ℤ, pos, negsuc, neg_ℤ, nat_abs, ◌-ℤ◌, ◌*ℤ◌}
 use Rattle.std.proofs.Common.{sym, ap, ◌∙◌, arith, div-add-mod', mod-lt, add-mul, zero-mul, suc-mul, mul-le-mul_right}
-use Prim.Native.Nat.{ℕ, zero, suc, ◌+◌, ◌-◌, ◌*◌, ◌/◌, ◌%◌, ◌<◌, ◌≤◌, compare, Ordering}
+use Prim.Native.Nat.{ℕ, zero, suc, ◌+◌, ◌*◌, ◌/◌, ◌%◌, ◌<◌, ◌≤◌, compare, Ordering}
 use Rattle.std.specs.Float.Ieee.{nearest as Ieee·nearest}
 use Rattle.std.proofs.Math.IntN.{neg_ℤ-neg_ℤ, neg_ℤ-+ℤ}
 use Rattle.laws.specs.Words.{gap}
