@@ -4,7 +4,6 @@ use mathlib.Core.Bool.{Bool, false}
 use mathlib.Core.List.{List}
 use Prim.Native.Nat.{ℕ, ◌+◌, ◌*◌, ◌/◌, ◌%◌, ◌<◌}
 use native.Mathlib.Omega.{arith}
-use borrow.Author.Count.{below_none}
 use lib.IntN.{pos}
 use lib.Signed.{lt_z}
 use lib.ListN.{length, get_or, set, length-set}
@@ -23,9 +22,6 @@ pub record Upto (A : Type 0) (d : A) (f : ℕ → A) (n : ℕ) (xs : List A) (m 
   pub are : (k : ℕ) → k < m → get_or xs k d ≡ f k
 
 module _ (A : Type 0) (d : A) (f : ℕ → A) (n : ℕ) (xs : List A) where
-  none : length xs ≡ n → Upto A d f n xs 0
-  none h = record { long = h; are = below_none _ }
-
   more : (m next : ℕ) {v : A} → next ≡ m + 1 → m < n → v ≡ f m → Upto A d f n xs m → Upto A d f n (set xs m v) next
   more m next q h e u =
       record { long = simp length-set u.long; are = λ k l. filled_more A d f xs m _ (omega (arith, u.long)) e u.are k (omega arith) }
@@ -49,9 +45,6 @@ pub record Ones (e : List Coord) (regret : List Float) (odd : List ℕ) (up : Li
   pub ups : Upto Bool false (up_at e) 128 up i
 
 module _ (e : List Coord) (regret : List Float) (odd : List ℕ) (up : List Bool) where
-  pub ones_none : length regret ≡ 128 → length odd ≡ 128 → length up ≡ 128 → Ones e regret odd up 0
-  ones_none hr ho hu = record { regrets = none _ _ _ _ _ hr; odds = none _ _ _ _ _ ho; ups = none _ _ _ _ _ hu }
-
   pub ones-more : (i : ℕ) (c : Coord) {o : ℕ} {b : Bool} → i < 128 → c ≡ coord_at e i → o ≡ mod_z c.k0 2 → b ≡ lt_z (pos 0) c.dir
       → Ones e regret odd up i → Ones e (set regret i c.regret) (set odd i o) (set up i b) (i + 1)
   ones-more i c h hc ho hb s =
@@ -88,9 +81,6 @@ slot_is A g i f l =
     ap₂ g q r
 
 module _ (e : List Coord) (dist : List Float) (weight rank : List ℕ) where
-  pub fives-none : length dist ≡ 640 → length weight ≡ 640 → length rank ≡ 640 → Fives e dist weight rank 0
-  fives-none hd hw hr = record { dists = none _ _ _ _ _ hd; weights = none _ _ _ _ _ hw; ranks = none _ _ _ _ _ hr }
-
   pub fives-more : (i f : ℕ) (c : Coord) → i < 128 → f < 5 → c ≡ coord_at e i → Fives e dist weight rank (5 * i + f)
       → Fives e (set dist (5 * i + f) (get_or c.d f nan)) (set weight (5 * i + f) (get_or c.w f 0)) (set rank (5 * i + f) (get_or c.rank f 0))
       (5 * i + (f + 1))

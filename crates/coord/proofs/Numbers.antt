@@ -1,10 +1,8 @@
 -- Whole numbers counted from -1048576 on: the member o + 4k of such a k, and the five slots of a rounding. Assumes nothing.
-use mathlib.Core.Path.{◌≡◌, refl, ap, sym, ◌∙◌}
-use Prim.Native.Nat.{ℕ, suc, ◌+◌, ◌*◌, ◌-◌, ◌<◌, ◌≤◌}
+use mathlib.Core.Path.{◌≡◌, ap, sym, ◌∙◌}
+use Prim.Native.Nat.{ℕ, suc, ◌+◌, ◌*◌, ◌-◌, ◌<◌}
 use native.Mathlib.Omega.{arith}
-use lib.IntN.{ℤ, pos, negsuc, neg_ℤ, nat_abs, sub_ℕ, ◌+ℤ◌}
-use mir.Syntax.{w32}
-use mir.Val.{SFits}
+use lib.IntN.{ℤ, pos, negsuc, neg_ℤ, sub_ℕ, ◌+ℤ◌}
 use Rattle.laws.specs.Laws.Whole.{sub_by}
 use Rattle.search.specs.Record.{member, slot_k}
 use Rattle.coord.specs.Inner.{unbiased}
@@ -24,26 +22,6 @@ member_is o kk ho =
     sub_by (λ (k : ℤ). sub_ℕ (o + 4 * kk) 4194304 ≡ member o k) kk 1048576
     (λ h. sub-below (o + 4 * kk) 4194304 (omega arith) ∙ ap negsuc (omega arith) ∙ sym (member-neg o (1048576 - suc kk) ho))
     (λ h. sub-above (o + 4 * kk) 4194304 (omega arith) ∙ ap pos (omega arith))
-
-pub member-fits : (a : ℕ) → a < 8388612 → SFits w32 (sub_ℕ a 4194304)
-member-fits a h = sub_by (λ (z : ℤ). SFits w32 z) a 4194304 (λ l. record { sfits = omega arith }) (λ l. record { sfits = omega arith })
-
--- ---- the k of the first slot, two below k
-abbrev pub risen : ℤ → ℕ
-risen (pos n) = n + 1048574
-risen (negsuc n) = 1048574 - suc n
-
-pub rise : (k : ℤ) → nat_abs k ≤ 1000000 → k +ℤ pos 1048574 ≡ pos (risen k)
-rise (pos n) h = refl
-rise (negsuc n) h = sub-above 1048574 (suc n) (omega arith)
-
-pub risen-lt : (k : ℤ) → nat_abs k ≤ 1000000 → risen k < 2050000
-risen-lt (pos n) h = omega arith
-risen-lt (negsuc n) h = omega arith
-
-pub risen_back : (k : ℤ) → nat_abs k ≤ 1000000 → k ≡ unbiased (risen k + 2)
-risen_back (pos n) h = sym (sub-above (n + 1048574 + 2) 1048576 (omega arith) ∙ ap pos (omega arith))
-risen_back (negsuc n) h = sym (sub-below (1048574 - suc n + 2) 1048576 (omega arith) ∙ ap negsuc (omega arith))
 
 -- the five slots stand at kk, kk + 1, .., kk + 4
 pub slot_0 : (kk : ℕ) → unbiased kk ≡ slot_k (unbiased (kk + 2)) 0
