@@ -176,7 +176,7 @@ slot-abs k f l =
 
 -- ---- the ranks and the weights of a row of records
 pub record Slots (p c : ℕ) (e : List Coord) : Type 0 where
-  pub rank_is_lem : (j f : ℕ) → j < 8 → f < 5 → get_or (coord_at e j).rank f 0 ≡ mark_k (o_at p c j) (slot_k (coord_at e j).k0 f)
+  pub rank_is : (j f : ℕ) → j < 8 → f < 5 → get_or (coord_at e j).rank f 0 ≡ mark_k (o_at p c j) (slot_k (coord_at e j).k0 f)
   pub w_is : (j f : ℕ) → j < 8 → f < 5 → get_or (coord_at e j).w f 0 ≡ sq (mark_k (o_at p c j) (slot_k (coord_at e j).k0 f))
 
 pub record Shape (p c : ℕ) (k : ℕ → ℤ) (cost key : ℕ) : Type 0 where
@@ -207,7 +207,7 @@ row_at ts p c s j h = tab_at Coord no_coord (λ j. coord_of (get_or ts j nan) (g
 
 pub row-slots : (ts : List Float) (p c s : ℕ) → Slots p c (row ts p c s)
 row-slots ts p c s = record {
-  rank_is_lem = λ j f h l. subst (λ (x : Coord). get_or x.rank f 0 ≡ mark_k (o_at p c j) (slot_k x.k0 f)) (sym (row_at ts p c s j h))
+  rank_is = λ j f h l. subst (λ (x : Coord). get_or x.rank f 0 ≡ mark_k (o_at p c j) (slot_k x.k0 f)) (sym (row_at ts p c s j h))
       (coord_rank (get_or ts j nan) (get_or shrinks s nan) (o_at p c j) f l);
   w_is = λ j f h l. subst (λ (x : Coord). get_or x.w f 0 ≡ sq (mark_k (o_at p c j) (slot_k x.k0 f))) (sym (row_at ts p c s j h))
       (coord_w (get_or ts j nan) (get_or shrinks s nan) (o_at p c j) f l);
