@@ -28,5 +28,5 @@ module _ (dist : List Float) (weight rank at : List ℕ) (j0 fix : ℕ) where
   two (suc n) j k h g d =
       ⊎_elim
       (λ q. ⊎_elim (λ r. absurd (d (q ∙ sym r))) (λ l. rw q (omega (arith, one n k l))) (split k n g))
-      (λ m. ⊎_elim (λ r. rw r (omega (arith, one n j m))) (λ l. omega (arith, two n j k m l d)) (split k n g))
+      (λ (m : j < n). ⊎_elim (λ r. rw r (omega (arith, one n j m))) (λ l. omega (arith, two n j k m l d)) (split k n g))
       (split j n h)

@@ -15,9 +15,7 @@ use Rattle.solve.specs.Inner.Flat.{top_in, fix_in, base_in, start_in}
 use Rattle.solve.specs.Laws.{other-lt}
 use Rattle.solve.specs.Inner.{Apart, Covered}
 use Rattle.solve.proofs.Sums.{two}
-use borrow.Author.Rules.{rules}
-use Rattle.solve.proofs.begin.Statement.{statement}
-use Rattle.solve.proofs.begin.Tie as tie
+use Rattle.solve.proofs.begin.Goals as goal
 
 differ : (j j0 j1 : ℕ) (b : Bool) → b ≡ eqb j j0 → (j0 ≡ j1 → ⊥) → j ≡ cond b j1 j0 → ⊥
 differ j j0 j1 true e h q = h (sym (eqb→eq j j0 (subst T e tt)) ∙ q)
@@ -36,33 +34,21 @@ begun : (regret dist : List Float) (weight rank odd : List ℕ) (up : List Bool)
 unfolding start_in
 begun regret dist weight rank odd up at want ht hf hn = rw (hn, hf, ht)
 
-top-two-requires : tie.Need-top-two-requires
-top-two-requires c κs = search rules
-
-fix-of-requires : tie.Need-fix-of-requires
-fix-of-requires c κs = search rules
-
-base-at-requires : tie.Need-base-at-requires
-base-at-requires c κs = search rules
-
-returns : tie.Need-returns
+pub returns : goal.returns
 returns c =
-    let s = c.before.before.before.args in
-    let a = c.before.before.top-two.ensures.1 in (
+    let s = c.args in
+    let a = c.top_two-top.ensures.1 in (
       begun s.regret.now s.dist.now s.weight.now s.rank.now s.odd.now s.up.now s.at.now s.want
-          c.before.before.top-two.ensures.0 c.before.fix-of.ensures.0 c.base_at_lem.ensures.0,
+          c.top_two-top.ensures.0 c.fix_of-fix.ensures.0 c.base_at-n.ensures.0,
       (
         (a.0, a.1.0),
         (
-          c.before.fix-of.ensures.1,
+          c.fix_of-fix.ensures.1,
           (
-            covered s.dist.now s.weight.now s.rank.now s.at.now c.before.before.top-two.result c.before.fix-of.result a
-                c.base_at_lem.ensures.0,
-            c.base_at_lem.ensures.1,
+            covered s.dist.now s.weight.now s.rank.now s.at.now c.top_two-top.result c.fix_of-fix.result a
+                c.base_at-n.ensures.0,
+            c.base_at-n.ensures.1,
           ),
         ),
       ),
     )
-
-pub begin-spec : {M : Type 1} → statement M
-begin-spec = tie.close (tie.spec top-two-requires fix-of-requires base-at-requires returns)
