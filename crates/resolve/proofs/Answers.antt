@@ -18,13 +18,13 @@ use Rattle.search.specs.declared.Found.{Found}
 use Rattle.search.specs.declared.Found.TheVariants.{At, Nothing}
 use Rattle.search.specs.Solve.{infinity, found_of}
 use Rattle.search.specs.Bound.{lex_num, lex_of}
-use Rattle.search.specs.Tables.{tables, class_of, closed_of}
+use Rattle.search.specs.Tables.{tables, closed_of}
 use Rattle.search.specs.Entries.{infeasible, better, mid_of, settle}
 use Rattle.search.specs.Join.{ent_at}
-use Rattle.search.specs.Parity.{fixed, closed}
+use Rattle.search.specs.Parity.{fixed}
 use Rattle.solve.specs.Inner.Flat.{solve_in}
-use Rattle.resolve.specs.Inner.Flat.{Search, better_by, mid_by, end_over, mid_over, lowered_by, start_over}
-use Rattle.resolve.specs.Laws.{better_by_lem, mid_by_lem, start_over_lem}
+use Rattle.resolve.specs.Inner.Flat.{Search, mid_by, mid_over, lowered_by, start_over}
+use Rattle.resolve.specs.Laws.{mid_by_lem, start_over_lem}
 
 -- ---- the bounds: a cut packed and turned is the cut read with coordinate 0 most significant
 pub closed_is : (cost : ℕ) (cut : List ℕ) → lex_of (packed_of cut) ≡ lex_num 0 cut → {b : Bound} {x : Closed} → (b.cost ≡ cost) × (b.cut ≡ cut)
@@ -57,17 +57,6 @@ pub of_bases : (f : Entry) (c0 c1 : ℕ) {b0 b1 x0 x1 : Best} {x : Entry} → b0
 of_bases f c0 c1 q0 q1 hx = hx ∙ ap₂ (λ (a b : Best). start_over f a c0 b c1) q0 q1
 
 -- ---- resolved in full
-pub ended : (sol : Search) (f : Entry) (r c0 c1 n : ℕ) {b : Closed} {f0 f1 : Found} {e x : Entry} → b ≡ class_of tables r
-    → f0 ≡ found_of (sol c0 r b n) → e ≡ better_by f f0 c0 → f1 ≡ found_of (sol c1 r b n) → x ≡ better_by e f1 c1
-    → x ≡ end_over tables sol f r c0 c1 n
-ended sol f r c0 c1 n {b} {f0} {f1} {e} hb h0 he h1 hx =
-    let s0 : Best = sol c0 r (class_of tables r) n in
-    let s1 : Best = sol c1 r (class_of tables r) n in
-    let q0 : f0 ≡ found_of s0 = h0 ∙ ap (λ (z : Closed). found_of (sol c0 r z n)) hb in
-    let q1 : f1 ≡ found_of s1 = h1 ∙ ap (λ (z : Closed). found_of (sol c1 r z n)) hb in
-    let first : e ≡ better f s0 c0 = he ∙ (ap (λ (z : Found). better_by f z c0) q0 ∙ better_by_lem f s0 c0) in
-    hx ∙ (ap₂ (λ (a : Entry) (z : Found). better_by a z c1) first q1 ∙ better_by_lem (better f s0 c0) s1 c1)
-
 -- whether a member was met
 is_at : Found → Bool
 is_at (At d k) = true
@@ -122,16 +111,6 @@ pub solve_eight : (regret dist : List Float) (weight rank odd : List ℕ) (up : 
     → solve_in regret dist weight rank odd up c want bound n ≡ solve_in regret dist weight rank odd up c want bound 8
 unfolding solve_in
 solve_eight regret dist weight rank odd up c want bound n h = let q : min n 8 ≡ 8 = omega arith in rw q
-
--- ---- what a bound closes: an exact entry stays; another is resolved where its best path is under u, and dropped where not
-pub kept : (e new : Entry) (under : Bool) → e.exact ≡ true → e ≡ closed e under new
-kept e new under h = sym (ap (λ (x : Bool). cond x e (cond under new infeasible)) h)
-
-pub reopened : (e new : Entry) {under : Bool} {x : Entry} → e.exact ≡ false → under ≡ true → x ≡ new → x ≡ closed e under new
-reopened e new h q hx = hx ∙ sym (ap₂ (λ (a b : Bool). cond a e (cond b new infeasible)) h q)
-
-pub dropped : (e new : Entry) {under : Bool} {x : Entry} → e.exact ≡ false → under ≡ false → x ≡ infeasible → x ≡ closed e under new
-dropped e new h q hx = hx ∙ sym (ap₂ (λ (a b : Bool). cond a e (cond b new infeasible)) h q)
 
 -- ---- one entry of a list: a place past the end changes nothing
 pub past : (e : List Entry) (i : ℕ) (new : Entry) → length e ≤ i → e ≡ fixed e i new
