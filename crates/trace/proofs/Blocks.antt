@@ -63,18 +63,6 @@ module _ (text : List ℕ) (num : ℕ) (samples : List ℤ) (at i : ℕ) where
     pub array : samples ≡ front ++ replicate (1536 - 24 * i) (pos 0)
     pub same : blocks_at num 0 64 text ≡ behind i front (blocks_at num i (64 - i) (drop at text))
 
-  -- the array has 1536 places
-  pub kept_size : Kept → length samples ≡ 1536
-  kept_size k =
-      omega (
-        arith,
-        k.few,
-        k.size,
-        ap length k.array,
-        length-append k.front (replicate (1536 - 24 * i) (pos 0)),
-        length-replicate (1536 - 24 * i) (pos 0),
-      )
-
   -- something stands behind the last block that may follow
   pub kept_full : Kept → at < length text → i ≡ 64 → blocks_at num 0 64 text ≡ malformed
   kept_full k h e =
