@@ -32,16 +32,6 @@ sub_by P a b f g = go (ltb a b) refl
     go true e = f (ltb-true a b e)
     go false e = g (ltb-false a b e)
 
-mod-sub : (a b : ℕ) → mod_z (sub_ℕ a b) 2 ≡ (a + b) % 2
-mod-sub a b = sub_by (λ (z : ℤ). mod_z z 2 ≡ (a + b) % 2) a b (λ h. omega arith) (λ h. omega arith)
-
--- the parity of a sum
-pub parity-add : (a b : ℤ) → mod_z (a +ℤ b) 2 ≡ (mod_z a 2 + mod_z b 2) % 2
-parity-add (pos a) (pos b) = omega arith
-parity-add (pos a) (negsuc b) = mod-sub a (suc b) ∙ omega arith
-parity-add (negsuc a) (pos b) = mod-sub b (suc a) ∙ omega arith
-parity-add (negsuc a) (negsuc b) = omega arith
-
 -- ---- whether two are one
 pub eq_z→eq : (a b : ℤ) → T (eq_z a b) → a ≡ b
 eq_z→eq (pos a) (pos b) t = ap pos (eqb→eq a b t)

@@ -11,7 +11,8 @@ use Rattle.laws.specs.Laws.Tests.{is_true, or_left, or_right, and_in, eq→eqb}
 use Rattle.laws.specs.Words.{lex_le}
 use Rattle.laws.specs.Laws.Order.{pick3_out}
 use Rattle.laws.specs.Words.{mod_z, div_z}
-use Rattle.laws.specs.Laws.Whole.{mod2-lt, parity-add, high_bits}
+use Rattle.laws.specs.Laws.Whole.{mod2-lt, high_bits}
+use Rattle.laws.proofs.Whole.{parity-add}
 use Rattle.laws.specs.Words.{weight}
 use Rattle.rank.specs.Coord.{bit_of, k_of, rank_of, val_of}
 use Rattle.rank.specs.Vector.{ranks_below, sq, cost, class, k_zero, pack, unpack, within, bound_cost, bound_cut}

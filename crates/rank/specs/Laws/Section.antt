@@ -7,7 +7,8 @@ use native.Mathlib.Omega.{arith}
 use Rattle.std.proofs.lemmas.Nat.{mod-pow-add}
 use Rattle.laws.specs.Laws.Tests.{and_left, and_right, and_in, eq→eqb}
 use Rattle.laws.specs.Words.{mod_z, div_z}
-use Rattle.laws.specs.Laws.Whole.{mod2-lt, parity-add, low_bit, high_bits}
+use Rattle.laws.specs.Laws.Whole.{mod2-lt, low_bit, high_bits}
+use Rattle.laws.proofs.Whole.{parity-add}
 use Rattle.laws.specs.Words.{weight}
 use Rattle.rank.specs.Coord.{parity_of, bit_of, k_of, rank_of, val_of}
 use Rattle.rank.specs.Laws.Coord.{Member, member, val_rank, k_parity, residue}

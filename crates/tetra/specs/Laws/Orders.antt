@@ -7,7 +7,7 @@ use Rattle.laws.specs.Laws.Tests.{and_left, and_right, and_in, eq→eqb}
 use Rattle.laws.specs.Words.{tab}
 use Rattle.laws.specs.Laws.Lists.{tab-length, tab_at, map_at}
 use Rattle.laws.specs.Words.{mod_z}
-use Rattle.laws.specs.Laws.Whole.{parity-add}
+use Rattle.laws.proofs.Whole.{parity-add}
 use Rattle.rank.specs.Coord.{parity_of, k_of}
 use Rattle.rank.specs.Section.{uniform, k_sum}
 use Rattle.trellis.specs.Trio.{order, places}
