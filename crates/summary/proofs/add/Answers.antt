@@ -1,0 +1,82 @@
+-- `add` meets its contract. Assumes nothing.
+use native.Mathlib.Omega.{arith}
+use mathlib.Core.Path.{◌≡◌, sym, ap, ◌∙◌}
+use mathlib.Core.Bool.{true}
+use mathlib.Core.List.{List}
+use Prim.Native.Nat.{ℕ, ◌+◌, ◌<◌, ◌≤◌}
+use lib.IntN.{ℤ}
+use lib.ListN.{length}
+use Rattle.page.specs.Reader.{reading_of}
+use Rattle.page.specs.Laws.Answer.{Accepted, refused-number, some-page}
+use Rattle.summary.specs.Summary.{page_row, cells_for}
+use Rattle.summary.specs.Answer.{agree}
+use Rattle.summary.specs.Laws.Answers.{add_none, add_full, add_short, add-other, add-good}
+use Rattle.summary.specs.Laws.Rows.{joined}
+use Rattle.summary.specs.Laws.Grown.{stored_by}
+use Rattle.summary.proofs.Blocks.{page-fits, block-fits}
+use Rattle.summary.proofs.add.Goals as goal
+use Rattle.summary.proofs.add.Goals.{Else-number-ne0}
+
+-- the text is a page
+accepted : (c : Else-number-ne0) → Accepted c.args.text.now c.parse-page.result
+accepted c = some-page c.args.text.now c.parse-page.result c.parse-page.ensures c.if-number-ne0.false
+
+pub returns-then-number-ne0 : goal.returns-then-number-ne0
+returns-then-number-ne0 c =
+    let p = c.parse-page in
+    let q = refused-number (reading_of c.args.text.now) p.result p.ensures c.if-number-ne0.true in
+    let s = add_none c.args.word c.args.rows.now in
+    rw q.0 record { value = c.refused.ensures ∙ rw q.1 (sym s.0); rows_after = sym s.1 }
+
+pub returns-then-count-ge64 : goal.returns-then-count-ge64
+returns-then-count-ge64 c =
+    let a = accepted (goal.at.returns-then-count-ge64 c).Else-number-ne0 in
+    let s = add_full c.parse-page.result.num a.words c.args.rows.now c.args.word
+    (omega (arith, c.if-count-ge64.true, a.count)) in
+    rw a.reading record { value = c.refused-then-count-ge64.ensures ∙ sym s.0; rows_after = sym s.1 }
+
+pub returns-then-rows-count : goal.returns-then-rows-count
+returns-then-rows-count c =
+    let a = accepted (goal.at.returns-then-rows-count c).Else-number-ne0 in
+    let s = add_short c.parse-page.result.num a.words c.args.rows.now c.args.word
+    (omega (arith, c.if-count-ge64.false, a.count)) (omega (arith, c.if-rows-count.true, a.count)) in
+    rw a.reading record { value = c.refused-then-rows-count.ensures ∙ sym s.0; rows_after = sym s.1 }
+
+pub returns-then-not-rows_agree : goal.returns-then-not-rows_agree
+returns-then-not-rows_agree c =
+    let a = accepted (goal.at.returns-then-not-rows_agree c).Else-number-ne0 in
+    let old = c.args.rows.now in
+    let few : length a.words < 64 = omega (arith, c.if-count-ge64.false, a.count) in
+    let room : cells_for (length a.words + 1) ≤ length old = omega (arith, c.if-rows-count.false, a.count) in
+    let told : c.rows_agree.result ≡ agree a.words old = c.rows_agree.ensures ∙ ap (λ ws. agree ws old) a.front in
+    let s = add-other c.parse-page.result.num a.words old c.args.word few room
+    (sym told ∙ c.if-not-rows_agree.true) in
+    rw a.reading record { value = c.refused-then-not-rows_agree.ensures ∙ sym s.0; rows_after = sym s.1 }
+
+pub joined-requires : goal.joined-requires
+joined-requires c =
+    let a = accepted (goal.at.joined-requires c).Else-number-ne0 in
+    let p = page-fits a.words (omega (arith, a.count, a.count_most)) in
+    let b = block-fits c.args.word in
+    let page_is : c.page_row.result ≡ page_row a.words = c.page_row.ensures ∙ ap page_row a.front in
+    rw (page_is, c.block_row-block.ensures) (p.0, b.0, p.1, b.1)
+
+pub returns : goal.returns
+returns c =
+    let a = accepted (goal.at.returns c).Else-number-ne0 in
+    let p = c.parse-page.result in
+    let old = c.args.rows.now in
+    let few : length a.words < 64 = omega (arith, c.if-count-ge64.false, a.count) in
+    let room : cells_for (length a.words + 1) ≤ length old = omega (arith, c.if-rows-count.false, a.count) in
+    let told : c.rows_agree.result ≡ agree a.words old = c.rows_agree.ensures ∙ ap (λ ws. agree ws old) a.front in
+    let page_is : c.page_row.result ≡ page_row a.words = c.page_row.ensures ∙ ap page_row a.front in
+    let t : agree a.words old ≡ true = sym told ∙ c.if-not-rows_agree.false in
+    let s = add-good p.num a.words old c.args.word few room t in
+    let b = c.block_row-block in
+    let g = c.joined.ensures ∙ ap (λ (l : List ℤ). joined p.count l b.result) page_is in
+    rw a.reading record {
+      value = ap (λ (n : ℕ). record { number = 0; count = n + 1 }) a.count ∙ sym s.0;
+      rows_after = stored_by a.words c.args.word old _ _ _ b.result p.count a.count b.ensures g
+          c.put_row.ensures c.put_row-2.ensures t room
+          ∙ sym s.1;
+    }
