@@ -4,15 +4,14 @@
 // A line's end is an LF, which the last line may lack. A line of 1,024 bytes or more is no request: it is answered by
 // refused=9.
 //
-// A program of this language has no exit status. So a read or a write that fails is said on standard error,
-// and from then on nothing is answered: what was written is a beginning of the right answers, whose last line
-// may be cut.
+// The exit status is 0 whatever happens: a read or a write that fails is said on standard error, and from then
+// on nothing is answered. What was written is a beginning of the right answers, whose last line may be cut.
 #![tactic(auto)]
 
 ghost use Rattle.std.specs.Prelude.{◌≤◌};
 
 use answers::Reply;
-use libc::{STDERR_FILENO, STDIN_FILENO, STDOUT_FILENO};
+use std::io::Read;
 use text::put;
 
 // What is held from byte to byte: so many bytes of a line, and so many of answers; and whether each write
@@ -31,50 +30,56 @@ struct Turn {
     line: usize,
 }
 
+// How much is read at once, and how many bytes of answers there is room for.
+const ROOM: usize = 65536;
+
 // Answers are written once so many bytes of them are held: no answer is longer than what is left of the buffer.
 const FULL: usize = 64512;
 
 // Says on standard error that a read or a write failed. No bytes of a line are held from then on, so nothing
 // more is answered.
-fn failed(what: &[u8]) -> Turn {
-    io::write_all(STDERR_FILENO, what);
+fn failed(rt: &impl Eprint, what: &str) -> Turn {
+    let _ = rt.eprintln(what);
     Turn {
         more: false,
         line: 0,
     }
 }
 
-fn write_out(out: &[u8], n: usize) -> bool {
+fn write_out(rt: &impl Print, out: &[u8], n: usize) -> bool {
     if n <= out.len() {
-        return io::write_all(STDOUT_FILENO, &out[0..n]);
+        return rt.write_all(&out[0..n]).is_ok();
     }
     false
 }
 
 // Writes the answers that are held once they fill the buffer.
-fn make_room(out: &[u8], held: Held) -> Held {
+fn make_room(rt: &impl Print, out: &[u8], held: Held) -> Held {
     if held.out < FULL {
         return held;
     }
     Held {
         line: held.line,
         out: 0,
-        good: write_out(out, held.out),
+        good: write_out(rt, out, held.out),
     }
 }
 
 // Writes the rest of the answers. After a write that failed nothing more is written: what follows would stand
 // in the middle of a line.
-fn write_rest(out: &[u8], held: Held) -> Turn {
+fn write_rest(rt: &(impl Print + Eprint), out: &[u8], held: Held) -> Turn {
     if held.good {
-        if write_out(out, held.out) {
+        if write_out(rt, out, held.out) {
             return Turn {
                 more: true,
                 line: held.line,
             };
         }
     }
-    failed(b"ask: standard output cannot be written, answers are missing\n")
+    failed(
+        rt,
+        "ask: standard output cannot be written, answers are missing",
+    )
 }
 
 // Puts an answer into out from `to` on, and answers the place behind it.
@@ -111,7 +116,13 @@ fn take(b: u8, line: &mut [u8], out: &mut [u8], held: Held) -> Held {
 }
 
 // Takes bytes of the input, of whose first line n bytes are held, and writes the answers to the lines that end in them.
-fn take_all(bytes: &[u8], line: &mut [u8], out: &mut [u8], n: usize) -> Turn {
+fn take_all(
+    rt: &(impl Print + Eprint),
+    bytes: &[u8],
+    line: &mut [u8],
+    out: &mut [u8],
+    n: usize,
+) -> Turn {
     let mut held = Held {
         line: n,
         out: 0,
@@ -120,53 +131,62 @@ fn take_all(bytes: &[u8], line: &mut [u8], out: &mut [u8], n: usize) -> Turn {
     let mut i: usize = 0;
     while i < bytes.len() && held.good {
         let taken = take(bytes[i], line, out, held);
-        held = make_room(out, taken);
+        held = make_room(rt, out, taken);
         i += 1;
     }
-    write_rest(out, held)
+    write_rest(rt, out, held)
 }
 
 // Reads once. A read that fails is not the end: what is held of a line is then no request.
-fn read_some(line: &mut [u8], out: &mut [u8], n: usize) -> Turn {
-    let mut bytes = io::large_buffer();
-    let got = libc::read(STDIN_FILENO, &mut bytes);
-    if got < 0 {
-        return failed(b"ask: standard input cannot be read, requests are missing\n");
-    }
-    if got == 0 {
-        return Turn {
+fn read_some(
+    rt: &(impl Print + Eprint),
+    from: &mut impl Read,
+    line: &mut [u8],
+    out: &mut [u8],
+    n: usize,
+) -> Turn {
+    let mut bytes = [0u8; ROOM];
+    match from.read(&mut bytes) {
+        Ok(0) => Turn {
             more: false,
             line: n,
-        };
+        },
+        Ok(count) => take_all(rt, &bytes[..count], line, out, n),
+        Err(_) => failed(
+            rt,
+            "ask: standard input cannot be read, requests are missing",
+        ),
     }
-    let count = io::count(got, &bytes);
-    take_all(&bytes[..count], line, out, n)
 }
 
 // Reads to the end, and answers how many bytes of a line are held there. A proved loop has to end, and nothing says that
-// the input does: so the turns are counted down, from a number that no run uses up.
-fn answer_all(line: &mut [u8], out: &mut [u8]) -> usize {
-    let mut turns = u64::MAX;
+// the input does: so the turns are counted, up to a number that no run reaches.
+fn answer_all(
+    rt: &(impl Print + Eprint),
+    from: &mut impl Read,
+    line: &mut [u8],
+    out: &mut [u8],
+) -> usize {
     let mut n = 0;
-    while turns > 0 {
-        let t = read_some(line, out, n);
+    for _ in 0..u64::MAX {
+        let t = read_some(rt, from, line, out, n);
         n = t.line;
         if !t.more {
-            return n;
+            break;
         }
-        turns -= 1;
     }
     n
 }
 
 // A last line with no LF is answered too.
-fn main() {
+fn main(rt: HostRuntime) {
     let mut line = [0u8; 1024];
-    let mut out = io::large_buffer();
-    let n = answer_all(&mut line, &mut out);
+    let mut out = [0u8; ROOM];
+    let n = answer_all(&rt, &mut rt.stdin(), &mut line, &mut out);
     if n > 0 {
         let end = end_line(&line, n, &mut out, 0);
         write_rest(
+            &rt,
             &out,
             Held {
                 line: 0,

@@ -2,42 +2,42 @@
 // digits, and for each line the program writes the number and the bits of the root, and the rounded number.
 #![tactic(auto)]
 
+ghost use Rattle.std.specs.Io.{ReadsAtMost};
+
+use std::io;
+use std::io::Read;
 use text::{Digit, double_of, hex, magnitude};
 
 // A line: 16 digits and the line feed.
 const LINE: usize = 17;
 
-// After a write that fails nothing more is written: standard output is closed, and each later write fails
-// too.
-fn or_close(written: bool) {
-    if !written {
-        libc::close(1);
-    }
-}
+// A thousand lines.
+const ROOM: usize = 17000;
 
-fn print_signed(k: i32) {
+fn print_signed(rt: &impl Print, k: i32) -> io::Result<()> {
     if k < 0 {
-        or_close(io::write_all(1, b"-"));
+        rt.print("-")?;
     }
-    or_close(io::print_decimal(1, magnitude(k)));
+    let m = magnitude(k);
+    print!(rt; "{m}")
 }
 
-fn print_root(x: f64) {
+fn print_root(rt: &impl Print, x: f64) -> io::Result<()> {
     let r = root::root(x);
-    or_close(io::print_decimal(1, r.number as u64));
-    or_close(io::write_all(1, b" "));
-    or_close(io::print_hex(1, f64::to_bits(r.root), 16));
+    let number = r.number;
+    let bits = f64::to_bits(r.root);
+    print!(rt; "{number} {bits:016x}")
 }
 
-fn print_rounded(x: f64) {
-    print_signed(float::round(x));
+fn print_rounded(rt: &impl Print, x: f64) -> io::Result<()> {
+    print_signed(rt, float::round(x))
 }
 
-fn print_answer(x: f64) {
-    print_root(x);
-    or_close(io::write_all(1, b" "));
-    print_rounded(x);
-    or_close(io::write_all(1, b"\n"));
+fn print_answer(rt: &impl Print, x: f64) -> io::Result<()> {
+    print_root(rt, x)?;
+    rt.print(" ")?;
+    print_rounded(rt, x)?;
+    rt.print("\n")
 }
 
 // What a line's 16 digits stand for; a line of anything else is taken for zero.
@@ -49,27 +49,45 @@ fn bits_of(line: &[u8]) -> u64 {
 }
 
 // Each whole line of s.
-fn run(s: &[u8]) {
+fn run(rt: &impl Print, s: &[u8]) -> io::Result<()> {
     let mut at = 0usize;
     while LINE <= s.len() - at {
-        print_answer(double_of(bits_of(&s[at..at + 16])));
+        print_answer(rt, double_of(bits_of(&s[at..at + 16])))?;
         at += LINE;
     }
+    Ok(())
+}
+
+// Reads until buf is full or the input ends, and says how many bytes it put at the start of buf.
+fn read_full(from: &mut impl Read, buf: &mut [u8]) -> io::Result<usize>
+    ensures { ReadsAtMost result buf.new }
+{
+    let mut n = 0;
+    while n < buf.len() {
+        let more = from.read(&mut buf[n..])?;
+        if more == 0 {
+            break;
+        }
+        n += more;
+    }
+    Ok(n)
 }
 
 // Reads up to a thousand lines, answers them, and says whether there may be more.
-fn some_lines() -> bool {
-    let mut buf = [0u8; 17000];
-    let n = io::read_full(0, &mut buf);
-    run(&buf[..n]);
-    n == 17000
+fn some_lines(rt: &impl Print, from: &mut impl Read) -> io::Result<bool> {
+    let mut buf = [0u8; ROOM];
+    let n = read_full(from, &mut buf)?;
+    run(rt, &buf[..n])?;
+    Ok(n == ROOM)
 }
 
-// A loop has to end, and nothing says that the input does: it counts its turns down from a number that no
-// input uses up.
-fn main() {
-    let mut turns = u64::MAX;
-    while turns > 0 && some_lines() {
-        turns -= 1;
+// A loop has to end, and nothing says that the input does: its turns are counted, up to a number that no input
+// reaches.
+fn main(rt: HostRuntime) -> io::Result<()> {
+    for _ in 0..u64::MAX {
+        if !some_lines(&rt, &mut rt.stdin())? {
+            break;
+        }
     }
+    Ok(())
 }

@@ -3,8 +3,10 @@
 #![tactic(auto)]
 
 ghost use Rattle.std.specs.Prelude.{◌≤◌, length};
+ghost use Rattle.std.specs.Io.{ReadsAtMost};
 
-use libc::{STDIN_FILENO, STDOUT_FILENO};
+use std::io;
+use std::io::Read;
 
 // Where the text that begins at `at` ends.
 fn end_of(texts: &[u8], at: usize) -> usize
@@ -21,54 +23,61 @@ fn end_of(texts: &[u8], at: usize) -> usize
     i
 }
 
-// After a write that fails nothing more is written: standard output is closed, and each later write fails
-// too.
-fn or_close(written: bool) {
-    if !written {
-        libc::close(STDOUT_FILENO);
-    }
+fn print_number(rt: &impl Print, key: &str, n: u64) -> io::Result<()> {
+    print!(rt; "{key}{n}")
 }
 
-fn print_number(key: &[u8], n: u64) {
-    or_close(io::write_all(STDOUT_FILENO, key));
-    or_close(io::print_decimal(STDOUT_FILENO, n));
+fn print_read(rt: &impl Print, key: &str, read: page::PageRead) -> io::Result<()> {
+    print_number(rt, key, read.number as u64)?;
+    print_number(rt, " count=", read.count as u64)?;
+    rt.print("\n")
 }
 
-fn print_read(key: &[u8], read: page::PageRead) {
-    print_number(key, read.number as u64);
-    print_number(b" count=", read.count as u64);
-    or_close(io::write_all(STDOUT_FILENO, b"\n"));
-}
-
-fn print(printed: shown::Printed)
+fn print(rt: &impl Print, printed: shown::Printed) -> io::Result<()>
     requires { printed.length ≤ 20672 }
 {
     let n = printed.length;
     let bytes = printed.bytes;
-    or_close(io::write_all(STDOUT_FILENO, &bytes[..n]));
+    rt.write_all(&bytes[..n])
 }
 
-fn answer(text: &[u8]) {
+fn answer(rt: &impl Print, text: &[u8]) -> io::Result<()> {
     let mut cells = [0i32; 24];
-    print_read(b"number=", page::read(text, &mut cells));
-    print_read(b"even number=", even::read_page(text, &mut cells));
-    print(shown::unpage(text));
+    print_read(rt, "number=", page::read(text, &mut cells))?;
+    print_read(rt, "even number=", even::read_page(text, &mut cells))?;
+    print(rt, shown::unpage(text))
 }
 
 // What stands behind the last % is a text too.
-fn answer_all(texts: &[u8])
+fn answer_all(rt: &impl Print, texts: &[u8]) -> io::Result<()>
     requires { length texts.now ≤ 8192 }
 {
     let mut at: usize = 0;
     while at <= texts.len() {
         let end = end_of(texts, at);
-        answer(&texts[at..end]);
+        answer(rt, &texts[at..end])?;
         at = end + 1;
     }
+    Ok(())
 }
 
-fn main() {
+// Reads until buf is full or the input ends, and says how many bytes it put at the start of buf.
+fn read_full(from: &mut impl Read, buf: &mut [u8]) -> io::Result<usize>
+    ensures { ReadsAtMost result buf.new }
+{
+    let mut n = 0;
+    while n < buf.len() {
+        let more = from.read(&mut buf[n..])?;
+        if more == 0 {
+            break;
+        }
+        n += more;
+    }
+    Ok(n)
+}
+
+fn main(rt: HostRuntime) -> io::Result<()> {
     let mut texts = [0u8; 8192];
-    let n = io::read_full(STDIN_FILENO, &mut texts);
-    answer_all(&texts[..n]);
+    let n = read_full(&mut rt.stdin(), &mut texts)?;
+    answer_all(&rt, &texts[..n])
 }

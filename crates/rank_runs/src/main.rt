@@ -3,236 +3,240 @@
 
 use rank::{Bound, Ranked};
 use rows::Seated;
+use std::io;
 
-// After a write that fails nothing more is written: standard output is closed, and each later write fails
-// too.
-fn or_close(written: bool) {
-    if !written {
-        libc::close(1);
-    }
-}
-
-fn text(t: &[u8]) {
-    or_close(io::write_all(1, t));
+fn text(rt: &impl Print, t: &str) -> io::Result<()> {
+    rt.print(t)
 }
 
 // A number after a label.
-fn part(label: &[u8], n: u32) {
-    text(label);
-    or_close(io::print_decimal(1, n as u64));
+fn part(rt: &impl Print, label: &str, n: u32) -> io::Result<()> {
+    print!(rt; "{label}{n}")
 }
 
 // A number with its sign after a label.
-fn signed_part(label: &[u8], n: i32) {
-    text(label);
+fn signed_part(rt: &impl Print, label: &str, n: i32) -> io::Result<()> {
+    text(rt, label)?;
     if n < 0 {
-        text(b"-");
+        text(rt, "-")?;
     }
-    or_close(io::print_decimal(1, text::magnitude(n)));
+    let m = text::magnitude(n);
+    print!(rt; "{m}")
 }
 
-fn ranks(rho: [u32; 8]) {
-    part(b" ", rho[0]);
-    part(b" ", rho[1]);
-    part(b" ", rho[2]);
-    part(b" ", rho[3]);
-    part(b" ", rho[4]);
-    part(b" ", rho[5]);
-    part(b" ", rho[6]);
-    part(b" ", rho[7]);
+// Eight hexadecimal digits.
+fn hex(rt: &impl Print, n: u32) -> io::Result<()> {
+    print!(rt; "{n:08x}")
 }
 
-fn show_val(o: u32, rho: u32) {
-    part(b"val ", o);
-    part(b" ", rho);
+fn ranks(rt: &impl Print, rho: [u32; 8]) -> io::Result<()> {
+    part(rt, " ", rho[0])?;
+    part(rt, " ", rho[1])?;
+    part(rt, " ", rho[2])?;
+    part(rt, " ", rho[3])?;
+    part(rt, " ", rho[4])?;
+    part(rt, " ", rho[5])?;
+    part(rt, " ", rho[6])?;
+    part(rt, " ", rho[7])
+}
+
+fn show_val(rt: &impl Print, o: u32, rho: u32) -> io::Result<()> {
+    part(rt, "val ", o)?;
+    part(rt, " ", rho)?;
     let v = rank::val(o, rho);
-    part(b": number ", v.number);
-    signed_part(b" value ", v.value);
-    text(b"\n");
+    part(rt, ": number ", v.number)?;
+    signed_part(rt, " value ", v.value)?;
+    text(rt, "\n")
 }
 
-fn show_rank(o: u32, y: i32) {
-    part(b"rank_of ", o);
-    signed_part(b" ", y);
+fn show_rank(rt: &impl Print, o: u32, y: i32) -> io::Result<()> {
+    part(rt, "rank_of ", o)?;
+    signed_part(rt, " ", y)?;
     match rank::rank_of(o, y) {
-        Ranked::Rank(rho) => part(b": rank ", rho),
-        Ranked::Nothing => text(b": none"),
-        Ranked::Refused => text(b": refused 7"),
+        Ranked::Rank(rho) => part(rt, ": rank ", rho)?,
+        Ranked::Nothing => text(rt, ": none")?,
+        Ranked::Refused => text(rt, ": refused 7")?,
     }
-    text(b"\n");
+    text(rt, "\n")
 }
 
-fn show_class(rho: [u32; 8]) {
-    text(b"rank_class");
-    ranks(rho);
+fn show_class(rt: &impl Print, rho: [u32; 8]) -> io::Result<()> {
+    text(rt, "rank_class")?;
+    ranks(rt, rho)?;
     let a = rank::rank_class(rho);
-    part(b": number ", a.number);
-    part(b" class ", a.class);
-    text(b"\n");
+    part(rt, ": number ", a.number)?;
+    part(rt, " class ", a.class)?;
+    text(rt, "\n")
 }
 
-fn show_cost(rho: [u32; 8]) {
-    text(b"cost");
-    ranks(rho);
+fn show_cost(rt: &impl Print, rho: [u32; 8]) -> io::Result<()> {
+    text(rt, "cost")?;
+    ranks(rt, rho)?;
     let a = rank::cost(rho);
-    part(b": number ", a.number);
-    part(b" cost ", a.cost);
-    text(b"\n");
+    part(rt, ": number ", a.number)?;
+    part(rt, " cost ", a.cost)?;
+    text(rt, "\n")
 }
 
-fn show_held(name: &[u8], b: Bound, rho: [u32; 8]) {
-    text(name);
-    ranks(rho);
+fn show_held(rt: &impl Print, name: &str, b: Bound, rho: [u32; 8]) -> io::Result<()> {
+    text(rt, name)?;
+    ranks(rt, rho)?;
     let a = b.contains(rho);
-    part(b": number ", a.number);
-    if a.held {
-        text(b" yes\n");
-    } else {
-        text(b" no\n");
-    }
+    part(rt, ": number ", a.number)?;
+    text(rt, if a.held { " yes\n" } else { " no\n" })
 }
 
-fn show_coordinate(y: i32) {
-    signed_part(b"coordinate ", y);
-    part(b": residue ", rank::residue(y));
-    part(b" parity ", rank::parity(y));
-    part(b" bit ", rank::bit(y));
-    part(b" mark ", rank::mark(y));
-    text(b"\n");
+fn show_coordinate(rt: &impl Print, y: i32) -> io::Result<()> {
+    signed_part(rt, "coordinate ", y)?;
+    part(rt, ": residue ", rank::residue(y))?;
+    part(rt, " parity ", rank::parity(y))?;
+    part(rt, " bit ", rank::bit(y))?;
+    part(rt, " mark ", rank::mark(y))?;
+    text(rt, "\n")
 }
 
-fn show_pack(rho: [u32; 8]) {
-    text(b"pack");
-    ranks(rho);
+fn show_pack(rt: &impl Print, rho: [u32; 8]) -> io::Result<()> {
+    text(rt, "pack")?;
+    ranks(rt, rho)?;
     let row = rank::pack(rho);
-    text(b": ");
-    or_close(io::print_hex(1, row as u64, 8));
-    text(b" unpacks to");
-    ranks(rank::unpack(row));
-    text(b"\n");
+    text(rt, ": ")?;
+    hex(rt, row)?;
+    text(rt, " unpacks to")?;
+    ranks(rt, rank::unpack(row))?;
+    text(rt, "\n")
 }
 
-fn seat(s: Seated) {
+fn seat(rt: &impl Print, s: Seated) -> io::Result<()> {
     match s {
         Seated::At { class, index } => {
-            part(b": class ", class);
-            part(b" index ", index as u32);
+            part(rt, ": class ", class)?;
+            part(rt, " index ", index as u32)?;
         }
-        Seated::Nothing => text(b": none"),
+        Seated::Nothing => text(rt, ": none")?,
     }
-    text(b"\n");
+    text(rt, "\n")
 }
 
-fn show_class_index(rho: [u32; 8]) {
-    text(b"class_index");
-    ranks(rho);
-    seat(rows::class_index(rho));
+fn show_class_index(rt: &impl Print, rho: [u32; 8]) -> io::Result<()> {
+    text(rt, "class_index")?;
+    ranks(rt, rho)?;
+    seat(rt, rows::class_index(rho))
 }
 
-fn show_mixed_index(rho: [u32; 8]) {
-    text(b"mixed_index");
-    ranks(rho);
-    seat(rows::mixed_index(rho));
+fn show_mixed_index(rt: &impl Print, rho: [u32; 8]) -> io::Result<()> {
+    text(rt, "mixed_index")?;
+    ranks(rt, rho)?;
+    seat(rt, rows::mixed_index(rho))
 }
 
-fn show_row(i: u32) {
-    part(b"row ", i);
-    text(b": ");
-    or_close(io::print_hex(1, rows::row(i as usize) as u64, 8));
-    text(b"\n");
+fn show_row(rt: &impl Print, i: u32) -> io::Result<()> {
+    part(rt, "row ", i)?;
+    text(rt, ": ")?;
+    hex(rt, rows::row(i as usize))?;
+    text(rt, "\n")
 }
 
-fn show_find(w: u32) {
-    text(b"find ");
-    or_close(io::print_hex(1, w as u64, 8));
-    part(b": ", rows::find(w));
-    text(b"\n");
+fn show_find(rt: &impl Print, w: u32) -> io::Result<()> {
+    text(rt, "find ")?;
+    hex(rt, w)?;
+    part(rt, ": ", rows::find(w))?;
+    text(rt, "\n")
 }
 
-fn values() {
-    show_val(0, 0);
-    show_val(0, 1);
-    show_val(0, 2);
-    show_val(3, 0);
-    show_val(3, 7);
-    show_val(4, 0);
-    show_val(0, 8);
+fn values(rt: &impl Print) -> io::Result<()> {
+    show_val(rt, 0, 0)?;
+    show_val(rt, 0, 1)?;
+    show_val(rt, 0, 2)?;
+    show_val(rt, 3, 0)?;
+    show_val(rt, 3, 7)?;
+    show_val(rt, 4, 0)?;
+    show_val(rt, 0, 8)
 }
 
-fn lookups() {
-    show_rank(0, -4);
-    show_rank(1, -3);
-    show_rank(1, -4);
-    show_rank(0, 16);
-    show_rank(0, -16);
-    show_rank(4, 0);
+fn lookups(rt: &impl Print) -> io::Result<()> {
+    show_rank(rt, 0, -4)?;
+    show_rank(rt, 1, -3)?;
+    show_rank(rt, 1, -4)?;
+    show_rank(rt, 0, 16)?;
+    show_rank(rt, 0, -16)?;
+    show_rank(rt, 4, 0)
 }
 
-fn coordinates() {
-    show_coordinate(-3);
-    show_coordinate(12);
-    show_coordinate(-16);
-    show_coordinate(-2147483648);
+fn coordinates(rt: &impl Print) -> io::Result<()> {
+    show_coordinate(rt, -3)?;
+    show_coordinate(rt, 12)?;
+    show_coordinate(rt, -16)?;
+    show_coordinate(rt, -2147483648)
 }
 
-fn bounds() {
+fn bounds(rt: &impl Print) -> io::Result<()> {
     let rho = [3, 0, 0, 0, 1, 1, 0, 0];
-    show_cost(rho);
-    show_class(rho);
-    show_held(b"middle", rank::MIXED_BOUND, rho);
-    show_held(b"class 0", rank::CLASS_BOUNDS[0], rho);
-    show_held(b"middle", rank::mixed_bound(), [1, 1, 1, 1, 1, 1, 1, 1]);
+    show_cost(rt, rho)?;
+    show_class(rt, rho)?;
+    show_held(rt, "middle", rank::MIXED_BOUND, rho)?;
+    show_held(rt, "class 0", rank::CLASS_BOUNDS[0], rho)?;
+    show_held(rt, "middle", rank::mixed_bound(), [1, 1, 1, 1, 1, 1, 1, 1])
 }
 
-fn cuts() {
-    show_held(b"middle", rank::mixed_bound(), [3, 0, 0, 0, 1, 0, 1, 0]);
-    show_held(b"class 1", rank::class_bound(1), [0, 0, 2, 2, 2, 0, 1, 1]);
-    show_held(b"class 1", rank::class_bound(1), [0, 0, 2, 2, 2, 0, 1, 2]);
+fn cuts(rt: &impl Print) -> io::Result<()> {
+    show_held(rt, "middle", rank::mixed_bound(), [3, 0, 0, 0, 1, 0, 1, 0])?;
+    show_held(
+        rt,
+        "class 1",
+        rank::class_bound(1),
+        [0, 0, 2, 2, 2, 0, 1, 1],
+    )?;
+    show_held(
+        rt,
+        "class 1",
+        rank::class_bound(1),
+        [0, 0, 2, 2, 2, 0, 1, 2],
+    )
 }
 
-fn edges() {
-    show_class([0, 0, 0, 0, 0, 0, 0, 7]);
-    show_class([0, 0, 0, 0, 0, 0, 0, 8]);
-    show_cost([15, 15, 15, 15, 15, 15, 15, 15]);
-    show_cost([16, 0, 0, 0, 0, 0, 0, 0]);
-    show_held(b"middle", rank::mixed_bound(), [0, 0, 0, 0, 0, 0, 0, 16]);
-    show_pack([1, 2, 3, 4, 0, 0, 0, 15]);
-    show_pack([16, 0, 0, 0, 0, 0, 0, 17]);
+fn edges(rt: &impl Print) -> io::Result<()> {
+    show_class(rt, [0, 0, 0, 0, 0, 0, 0, 7])?;
+    show_class(rt, [0, 0, 0, 0, 0, 0, 0, 8])?;
+    show_cost(rt, [15, 15, 15, 15, 15, 15, 15, 15])?;
+    show_cost(rt, [16, 0, 0, 0, 0, 0, 0, 0])?;
+    show_held(rt, "middle", rank::mixed_bound(), [0, 0, 0, 0, 0, 0, 0, 16])?;
+    show_pack(rt, [1, 2, 3, 4, 0, 0, 0, 15])?;
+    show_pack(rt, [16, 0, 0, 0, 0, 0, 0, 17])
 }
 
 // The last row of each class and the vector after it, those of the middle section, and vectors that no packed row is.
-fn seats() {
-    show_class_index([1, 1, 0, 3, 0, 0, 1, 1]);
-    show_class_index([1, 1, 0, 3, 0, 1, 0, 1]);
-    show_class_index([0, 0, 2, 2, 2, 0, 1, 1]);
-    show_class_index([0, 0, 2, 2, 2, 1, 0, 1]);
-    show_mixed_index([3, 0, 0, 0, 1, 0, 1, 0]);
-    show_mixed_index([3, 0, 0, 0, 1, 1, 0, 0]);
-    show_mixed_index([0, 0, 0, 0, 0, 0, 0, 1]);
-    show_class_index([16, 0, 0, 0, 0, 0, 0, 0]);
-    show_class_index([5, 0, 0, 0, 0, 0, 0, 0]);
+fn seats(rt: &impl Print) -> io::Result<()> {
+    show_class_index(rt, [1, 1, 0, 3, 0, 0, 1, 1])?;
+    show_class_index(rt, [1, 1, 0, 3, 0, 1, 0, 1])?;
+    show_class_index(rt, [0, 0, 2, 2, 2, 0, 1, 1])?;
+    show_class_index(rt, [0, 0, 2, 2, 2, 1, 0, 1])?;
+    show_mixed_index(rt, [3, 0, 0, 0, 1, 0, 1, 0])?;
+    show_mixed_index(rt, [3, 0, 0, 0, 1, 1, 0, 0])?;
+    show_mixed_index(rt, [0, 0, 0, 0, 0, 0, 0, 1])?;
+    show_class_index(rt, [16, 0, 0, 0, 0, 0, 0, 0])?;
+    show_class_index(rt, [5, 0, 0, 0, 0, 0, 0, 0])
 }
 
-fn packed_rows() {
-    show_row(0);
-    show_row(2047);
-    show_row(2048);
-    show_row(4095);
-    show_row(4096);
-    show_find(0);
-    show_find(0x11003011);
-    show_find(0x10000000);
-    show_find(0x11022200);
-    show_find(0xffffffff);
+fn packed_rows(rt: &impl Print) -> io::Result<()> {
+    show_row(rt, 0)?;
+    show_row(rt, 2047)?;
+    show_row(rt, 2048)?;
+    show_row(rt, 4095)?;
+    show_row(rt, 4096)?;
+    show_find(rt, 0)?;
+    show_find(rt, 0x11003011)?;
+    show_find(rt, 0x10000000)?;
+    show_find(rt, 0x11022200)?;
+    show_find(rt, 0xffffffff)
 }
 
-fn main() {
-    values();
-    lookups();
-    coordinates();
-    bounds();
-    cuts();
-    edges();
-    seats();
-    packed_rows();
+fn main(rt: HostRuntime) -> io::Result<()> {
+    values(&rt)?;
+    lookups(&rt)?;
+    coordinates(&rt)?;
+    bounds(&rt)?;
+    cuts(&rt)?;
+    edges(&rt)?;
+    seats(&rt)?;
+    packed_rows(&rt)
 }

@@ -1,37 +1,39 @@
 // sizes: prints the summary of the page on standard input, or that it is no page.
 //
-// A program of this language has no exit status. So a read or a write that fails is said on standard error:
-// after a read nothing is printed, after a write nothing more is.
+// The exit status is 0 whatever happens: a read or a write that fails is said on standard error. After a read
+// nothing is printed, after a write nothing more is.
 #![tactic(auto)]
 
 ghost use Rattle.std.specs.Prelude.{◌≤◌};
 
-use libc::{STDERR_FILENO, STDOUT_FILENO};
-
 // Writes the answer in one call, and says whether all of it was written.
-fn print(printed: sized::Printed) -> bool
+fn print(rt: &impl Print, printed: sized::Printed) -> bool
     requires { printed.length ≤ 5331 }
 {
     let n = printed.length;
     let bytes = printed.bytes;
-    io::write_all(STDOUT_FILENO, &bytes[..n])
+    rt.write_all(&bytes[..n]).is_ok()
 }
 
-fn complain(what: &[u8]) {
-    io::write_all(STDERR_FILENO, what);
+// What cannot be said on standard error either is said nowhere.
+fn complain(rt: &impl Eprint, what: &str) {
+    let _ = rt.eprintln(what);
 }
 
 // No page has more than 1,189 bytes, so an input that fills the buffer is none, whatever follows (start-tells
 // of crate page). Nothing is printed before the whole page is read.
-fn main() {
+fn main(rt: HostRuntime) {
     let mut text = [0u8; 1190];
-    let read = input::read_all(&mut text);
+    let read = input::read_all(&mut rt.stdin(), &mut text);
     let n = read.length;
     if !read.good {
-        complain(b"sizes: standard input cannot be read\n");
+        complain(&rt, "sizes: standard input cannot be read");
         return;
     }
-    if !print(sized::sizes(&text[..n])) {
-        complain(b"sizes: standard output cannot be written, some of the answer is missing\n");
+    if !print(&rt, sized::sizes(&text[..n])) {
+        complain(
+            &rt,
+            "sizes: standard output cannot be written, some of the answer is missing",
+        );
     }
 }

@@ -4,51 +4,45 @@
 #![tactic(auto)]
 
 ghost use Rattle.std.specs.Prelude.{◌<◌, ◌≤◌, length};
+ghost use Rattle.std.specs.Io.{ReadsAtMost};
 
-use libc::{STDIN_FILENO, STDOUT_FILENO};
+use std::io;
+use std::io::Read;
 
-// After a write that fails nothing more is written: standard output is closed, and each later write fails
-// too.
-fn or_close(written: bool) {
-    if !written {
-        libc::close(STDOUT_FILENO);
-    }
+fn print(rt: &impl Print, text: &str) -> io::Result<()> {
+    rt.print(text)
 }
 
-fn print(text: &[u8]) {
-    or_close(io::write_all(STDOUT_FILENO, text));
-}
-
-fn print_number(key: &[u8], n: u64) {
-    print(key);
-    or_close(io::print_decimal(STDOUT_FILENO, n));
+fn print_number(rt: &impl Print, key: &str, n: u64) -> io::Result<()> {
+    print!(rt; "{key}{n}")
 }
 
 // A cell, and in front of it what stands between it and the one before: a comma within a row.
-fn print_cell(index: usize, z: i32) {
+fn print_cell(rt: &impl Print, index: usize, z: i32) -> io::Result<()> {
     if index == 0 {
-        print(b" cells=");
+        print(rt, " cells=")?;
     } else if index % 4 == 0 {
-        print(b";");
+        print(rt, ";")?;
     } else {
-        print(b",");
+        print(rt, ",")?;
     }
     if z < 0 {
-        print(b"-");
+        print(rt, "-")?;
     }
-    or_close(io::print_decimal(STDOUT_FILENO, text::magnitude(z)));
+    let m = text::magnitude(z);
+    print!(rt; "{m}")
 }
 
 // An answer, and the cells that the call was lent.
-fn print_answer(number: u32, count: usize, cells: &[i32]) {
-    print_number(b" number=", number as u64);
-    print_number(b" count=", count as u64);
+fn print_answer(rt: &impl Print, number: u32, count: usize, cells: &[i32]) -> io::Result<()> {
+    print_number(rt, " number=", number as u64)?;
+    print_number(rt, " count=", count as u64)?;
     let mut i: usize = 0;
     while i < cells.len() {
-        print_cell(i, cells[i]);
+        print_cell(rt, i, cells[i])?;
         i += 1;
     }
-    print(b"\n");
+    print(rt, "\n")
 }
 
 // The rows with one cell changed by one.
@@ -73,52 +67,57 @@ fn copied(rows: [i32; 260], count: usize) -> [i32; 265]
     cells
 }
 
-fn show_check(key: &[u8], text: &[u8], rows: [i32; 260], n: usize)
+fn show_check(rt: &impl Print, key: &str, text: &[u8], rows: [i32; 260], n: usize) -> io::Result<()>
     requires { n ≤ 260 }
 {
-    print_number(key, summary::check(text, &rows[..n]) as u64);
+    print_number(rt, key, summary::check(text, &rows[..n]) as u64)
 }
 
 // The summary as it is, with cells behind it; its last cell changed; the page's smallest; a cell too few.
-fn show_checks(text: &[u8], rows: [i32; 260], count: usize)
+fn show_checks(rt: &impl Print, text: &[u8], rows: [i32; 260], count: usize) -> io::Result<()>
     requires { count ≤ 64 }
 {
     let last = 4 * count + 3;
-    show_check(b"check=", text, rows, 260);
-    show_check(b" last=", text, damaged(rows, last), last + 1);
-    show_check(b" smallest=", text, damaged(rows, 2), last + 1);
-    show_check(b" short=", text, rows, last);
-    print(b"\n");
+    show_check(rt, "check=", text, rows, 260)?;
+    show_check(rt, " last=", text, damaged(rows, last), last + 1)?;
+    show_check(rt, " smallest=", text, damaged(rows, 2), last + 1)?;
+    show_check(rt, " short=", text, rows, last)?;
+    print(rt, "\n")
 }
 
-fn show_add(text: &[u8], word: u64, cells: &mut [i32]) {
+fn show_add(rt: &impl Print, text: &[u8], word: u64, cells: &mut [i32]) -> io::Result<()> {
     let summed = summary::add(text, word, cells);
-    print(b"add=");
-    or_close(io::print_hex(STDOUT_FILENO, word, 16));
-    print_answer(summed.number, summed.count, cells);
+    print!(rt; "add={word:016x}")?;
+    print_answer(rt, summed.number, summed.count, cells)
 }
 
 // A word added to the first n of the cells.
-fn show_add_to(text: &[u8], word: u64, rows: [i32; 265], n: usize)
+fn show_add_to(
+    rt: &impl Print,
+    text: &[u8],
+    word: u64,
+    rows: [i32; 265],
+    n: usize,
+) -> io::Result<()>
     requires { n ≤ 265 }
 {
     let mut cells = rows;
-    show_add(text, word, &mut cells[..n]);
+    show_add(rt, text, word, &mut cells[..n])
 }
 
 // Four words, each to a fresh copy with a cell more than the longer summary takes; then a cell too few, and
 // rows that are damaged.
-fn show_adds(text: &[u8], rows: [i32; 260], count: usize)
+fn show_adds(rt: &impl Print, text: &[u8], rows: [i32; 260], count: usize) -> io::Result<()>
     requires { count ≤ 64 }
 {
     let room = 4 * (count + 2);
     let cells = copied(rows, count);
-    show_add_to(text, 0x000000008e03, cells, room + 1);
-    show_add_to(text, 0x008800f00101, cells, room + 1);
-    show_add_to(text, 0x8000800000000001, cells, room + 1);
-    show_add_to(text, 0x3800, cells, room + 1);
-    show_add_to(text, 1, cells, room - 1);
-    show_add_to(text, 1, copied(damaged(rows, 2), count), room);
+    show_add_to(rt, text, 0x000000008e03, cells, room + 1)?;
+    show_add_to(rt, text, 0x008800f00101, cells, room + 1)?;
+    show_add_to(rt, text, 0x8000800000000001, cells, room + 1)?;
+    show_add_to(rt, text, 0x3800, cells, room + 1)?;
+    show_add_to(rt, text, 1, cells, room - 1)?;
+    show_add_to(rt, text, 1, copied(damaged(rows, 2), count), room)
 }
 
 // As many cells as are shown of the rows: the summary and two behind it, of 260.
@@ -132,14 +131,14 @@ fn shown(count: usize) -> usize
     4 * (count + 1) + 2
 }
 
-fn answer(text: &[u8]) {
+fn answer(rt: &impl Print, text: &[u8]) -> io::Result<()> {
     let mut rows = [7i32; 260];
     let summed = summary::summarise(text, &mut rows);
     let count = summed.count;
-    print(b"summarise");
-    print_answer(summed.number, count, &rows[..shown(count)]);
-    show_checks(text, rows, count);
-    show_adds(text, rows, count);
+    print(rt, "summarise")?;
+    print_answer(rt, summed.number, count, &rows[..shown(count)])?;
+    show_checks(rt, text, rows, count)?;
+    show_adds(rt, text, rows, count)
 }
 
 // Where the text that begins at `at` ends.
@@ -158,19 +157,35 @@ fn end_of(texts: &[u8], at: usize) -> usize
 }
 
 // What stands behind the last % is a text too.
-fn answer_all(texts: &[u8])
+fn answer_all(rt: &impl Print, texts: &[u8]) -> io::Result<()>
     requires { length texts.now ≤ 8192 }
 {
     let mut at: usize = 0;
     while at <= texts.len() {
         let end = end_of(texts, at);
-        answer(&texts[at..end]);
+        answer(rt, &texts[at..end])?;
         at = end + 1;
     }
+    Ok(())
 }
 
-fn main() {
+// Reads until buf is full or the input ends, and says how many bytes it put at the start of buf.
+fn read_full(from: &mut impl Read, buf: &mut [u8]) -> io::Result<usize>
+    ensures { ReadsAtMost result buf.new }
+{
+    let mut n = 0;
+    while n < buf.len() {
+        let more = from.read(&mut buf[n..])?;
+        if more == 0 {
+            break;
+        }
+        n += more;
+    }
+    Ok(n)
+}
+
+fn main(rt: HostRuntime) -> io::Result<()> {
     let mut texts = [0u8; 8192];
-    let n = io::read_full(STDIN_FILENO, &mut texts);
-    answer_all(&texts[..n]);
+    let n = read_full(&mut rt.stdin(), &mut texts)?;
+    answer_all(&rt, &texts[..n])
 }

@@ -1,0 +1,9 @@
+-- `run` is safe and ends: what is left of the slice gets shorter by a line at each turn.
+use Rattle.std.proofs.Common.{◌-◌, ◌≤◌, length}
+use Rattle.float_runs.proofs.run.Given as goal
+
+abbrev pub invariant-loop-at : goal.invariant-loop-at
+invariant-loop-at g l = l.at ≤ length l.s
+
+abbrev pub decreases-loop-at : goal.decreases-loop-at
+decreases-loop-at g l = length l.s - l.at
