@@ -1,6 +1,6 @@
 -- The setting of a call that names none, and the empty code, by what they are: so neither can become another in the
 -- definition and in the code together. Assumes nothing.
-use Rattle.std.specs.Prelude.{◌≡◌, List, ℕ, ◌≤◌, ℤ, pos, replicate, Float}
+use Rattle.std.specs.Prelude.{◌≡◌, List, ℕ, ◌≤◌, pos, replicate, Float}
 use Rattle.std.proofs.Math.Path.{refl, ap, ap₂}
 use Rattle.std.proofs.Common.{sym, arith, ne_eqb}
 use Rattle.std.specs.Float.{binary64}
@@ -17,7 +17,6 @@ use Rattle.search.specs.Entries.{Rule}
 use Rattle.search.specs.Parity.{both_parities, search}
 use Rattle.search.specs.Block.{targets_of}
 use Rattle.search.specs.Laws.Constants.{all_shrinks_lem}
-use Rattle.encoder.specs.declared.Code.{Code}
 use Rattle.encoder.specs.Encode.{
   empty_code,
   answered,

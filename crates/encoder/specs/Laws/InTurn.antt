@@ -4,16 +4,16 @@ use Rattle.std.specs.Prelude.{◌≡◌, Bool, List, ℕ, ◌≤◌, length, Flo
 use Rattle.std.proofs.Math.Path.{refl, sym, ap}
 use Rattle.std.proofs.Common.{◌∙◌}
 use Rattle.std.proofs.Math.Bool.{true, false, cond}
-use borrow.Author.Tests.{eq-eqb, ne_eqb, eqb-true, eqb-false}
+use borrow.Author.Tests.{ne_eqb, eqb-true, eqb-false}
 use Rattle.std.proofs.Math.Dec.{eqb}
 use Rattle.score.specs.Samples.{AllFit, sample_number}
 use Rattle.score.specs.Scale.{choice_of}
 use Rattle.score.specs.declared.Choice.{Choice}
 use Rattle.score.specs.declared.Choice.TheVariants.{Zero}
 use Rattle.score.specs.declared.Chosen.{Chosen}
-use Rattle.score.specs.Choice.{chosen_as, chosen, choice_number}
+use Rattle.score.specs.Choice.{chosen}
 use Rattle.score.specs.Laws.Choice.{choice-accepted}
-use Rattle.encoder.specs.Encode.{empty_code, number_by, chosen_over, number_of, encode_over, coded_as, in_turn}
+use Rattle.encoder.specs.Encode.{empty_code, number_by, chosen_over, number_of, encode_over, in_turn}
 use Rattle.encoder.specs.Numbers.{by_accepted, is_accepted, is_refused}
 
 -- ---- the first call: its number is that of the samples, so what the Rust's `encode` has at each setting but 0

@@ -3,7 +3,6 @@ use mathlib.Core.Path.{◌≡◌, ap, ap₂, ◌∙◌}
 use mathlib.Core.List.{List}
 use Prim.Native.Nat.{ℕ, ◌+◌}
 use native.Mathlib.Nat.{zero-add}
-use borrow.Author.Rules.{rules}
 use lib.ListN.{get_or}
 use lib.Ieee.{Float, nan}
 use Rattle.laws.specs.Words.{tab}
@@ -12,8 +11,7 @@ use Rattle.search.specs.Tables.{tables}
 use Rattle.search.specs.Parity.{Targets, parities_of}
 use Rattle.search.specs.Parity as parity
 use Rattle.search.specs.Block.{rule_of, trio_of, sections}
-use Rattle.encoder.proofs.winner_for.Statement.{statement}
-use Rattle.encoder.proofs.winner_for.Tie as tie
+use Rattle.encoder.proofs.winner_for.Goals as goal
 
 abbrev at : List Float → ℕ → List Float
 at u k = tab (λ (j : ℕ). get_or u (k + j) nan) 8
@@ -28,29 +26,10 @@ cut t u a b d e p q r =
     ap (λ (l : List Float). record { t1 = l; t2 = b; t3 = d }) (p ∙ front u)
     ∙ ap₂ {C = Targets} (λ (l m : List Float). record { t1 = tab (λ (j : ℕ). get_or u j nan) 8; t2 = l; t3 = m }) q r ∙ ap sections e
 
-trio-requires : tie.Need-trio-requires
-trio-requires c κs = search rules
-
-section-requires : tie.Need-section-requires
-section-requires c κs = search rules
-
-section-requires-2 : tie.Need-section-requires-2
-section-requires-2 c κs = search rules
-
-section-requires-3 : tie.Need-section-requires-3
-section-requires-3 c κs = search rules
-
-search-requires : tie.Need-search-requires
-search-requires c κs = search rules
-
-returns : tie.Need-returns
+pub returns : goal.returns
 returns c =
-    let s = c.before.before.before in
-    let a = s.before.before.args in
+    let a = c.args in
     c.search.ensures
     ∙ ap (λ (t : Targets). parity.search tables (rule_of a.setting) t (parities_of a.odd))
-    (cut a.t s.before.trio.result _ _ _ s.before.trio.ensures s.section.ensures
-    c.before.before.section2.ensures c.before.section3.ensures)
-
-pub winner-for-spec : {M : Type 1} → statement M
-winner-for-spec = tie.close (tie.spec trio-requires section-requires section-requires-2 section-requires-3 search-requires returns)
+    (cut a.t c.trio-u.result _ _ _ c.trio-u.ensures c.section.ensures
+    c.section-2.ensures c.section-3.ensures)
