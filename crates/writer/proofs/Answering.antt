@@ -36,15 +36,18 @@ num_kept num e = go (eqb num 0) (ltb 65535 num) refl refl e
 
 -- ---- a refusal
 pub met : (num count : ℕ) (xs : List ℤ) (old : List ℕ) (r s : Written) → Gives num count xs old s old → r ≡ s
-    → (r ≡ written_of num count xs (length old)) × (old ≡ text_after num count xs old)
-met num count xs old r s g e = (e ∙ sym g.0, sym g.1)
+    → record { value : r ≡ written_of num count xs (length old); text_after : old ≡ text_after num count xs old }
+met num count xs old r s g e = record { value = e ∙ sym g.0; text_after = sym g.1 }
 
 -- ---- where no refusal is left but that of the text, it is as `form` answers
 module _ (num count : ℕ) (xs : List ℤ) (old : List ℕ) (good : is_num num ≡ true) (few : count ≤ 64) (enough : 24 * count ≤ length xs)
     (narrow : count ≤ first_wide xs count) (near : count ≤ first_far (scale_of num) xs count) where
   pub formed : (words : List ℕ) → take count words ≡ words_for (scale_of num) xs count → (f : Formed) (after : List ℕ)
       → f ≡ formed_of num count words (length old) → after ≡ form_in num count words old
-      → (record { number = f.number; block = 0; length = f.length } ≡ written_of num count xs (length old)) × (after ≡ text_after num count xs old)
+      → record {
+        value : record { number = f.number; block = 0; length = f.length } ≡ written_of num count xs (length old);
+        text_after : after ≡ text_after num count xs old;
+      }
   unfolding text_of
   formed words w f after e g = go (ltb (length old) (length (text_of num count xs))) refl
     where
@@ -52,21 +55,25 @@ module _ (num count : ℕ) (xs : List ℤ) (old : List ℕ) (good : is_num num �
       same = ap (page_text num) w
 
       go : (b : Bool) → ltb (length old) (length (text_of num count xs)) ≡ b
-          → (record { number = f.number; block = 0; length = f.length } ≡ written_of num count xs (length old))
-          × (after ≡ text_after num count xs old)
+          → record {
+            value : record { number = f.number; block = 0; length = f.length } ≡ written_of num count xs (length old);
+            text_after : after ≡ text_after num count xs old;
+          }
       go true h =
           let l = ltb-true (length old) (length (text_of num count xs)) h in
           let n = is_num_lem num good in
           let p = on_short_text num count words old n.0 n.1 few (omega (arith, ap length same)) in
-          let q = short_text num count xs old good few enough narrow near l in (
-            ap {B = Written} (λ (x : Formed). record { number = x.number; block = 0; length = x.length }) (e ∙ p.0) ∙ sym q.0,
-            g ∙ p.1 ∙ sym q.1,
-          )
+          let q = short_text num count xs old good few enough narrow near l in
+          record {
+            value = ap {B = Written} (λ (x : Formed). record { number = x.number; block = 0; length = x.length }) (e ∙ p.0) ∙ sym q.0;
+            text_after = g ∙ p.1 ∙ sym q.1;
+          }
       go false h =
           let l = ltb-false (length old) (length (text_of num count xs)) h in
           let n = is_num_lem num good in
           let p = rw same at (on_formed num count words old n.0 n.1 few (omega (arith, ap length same))) in
-          let q = wrote num count xs old good few enough narrow near l in (
-            ap {B = Written} (λ (x : Formed). record { number = x.number; block = 0; length = x.length }) (e ∙ p.0) ∙ sym q.0,
-            g ∙ p.1 ∙ sym q.1,
-          )
+          let q = wrote num count xs old good few enough narrow near l in
+          record {
+            value = ap {B = Written} (λ (x : Formed). record { number = x.number; block = 0; length = x.length }) (e ∙ p.0) ∙ sym q.0;
+            text_after = g ∙ p.1 ∙ sym q.1;
+          }

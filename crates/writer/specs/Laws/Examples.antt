@@ -1,6 +1,6 @@
 -- Calls worked out from the definitions: an empty page, the order of the refusals, the block that is named, and where 2 and 4 begin. So no
 -- limit can become another in the definitions and in the code together. Assumes nothing.
-use Rattle.std.specs.Prelude.{◌≡◌, refl, true, false, List, [], ◌∷◌, ◌++◌, ℤ, pos, negsuc, replicate}
+use Rattle.std.specs.Prelude.{◌≡◌, refl, false, [], ◌∷◌, ◌++◌, pos, negsuc, replicate}
 use Rattle.std.specs.Float.Ieee.{div, of_int, round, size, lt}
 use Rattle.laws.specs.Words.{tab}
 use Rattle.text.specs.Text.{bytes, decimal}

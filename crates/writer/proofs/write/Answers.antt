@@ -1,0 +1,89 @@
+-- `writer::write` meets its contract. Assumes nothing.
+use mathlib.Core.Path.{◌≡◌, ap, ◌∙◌}
+use mathlib.Core.Bool.{true}
+use mathlib.Core.List.{List}
+use Prim.Native.Nat.{ℕ, ◌*◌, ◌≤◌}
+use native.Mathlib.Omega.{arith}
+use lib.Ieee.{Float}
+use lib.IntN.{ℤ}
+use lib.ListN.{length}
+use Rattle.page.specs.Form.{is_num}
+use Rattle.writer.specs.Writer.{scale_of, first_wide, first_far, words_for, refused_at}
+use Rattle.writer.specs.Laws.Answers.{bad_num, many, few_samples, wide, far}
+use Rattle.writer.proofs.Answering.{num_refused, num_kept, met, formed}
+use Rattle.writer.proofs.write.Goals as goal
+use Rattle.writer.proofs.write.Goals.{After-first_far-far, Else-samples-count, Else-wide-count}
+
+-- ---- what is known behind each test
+-- the tests before the passes: num is good, there are at most 64 blocks, and samples enough
+record Before (num count : ℕ) (xs : List ℤ) : Type 0 where
+  good : is_num num ≡ true
+  few : count ≤ 64
+  enough : 24 * count ≤ length xs
+
+before : (c : Else-samples-count) → Before c.args.num c.args.count c.args.samples.now
+before c =
+    record {
+      good = num_kept c.args.num c.if-num.false;
+      few = omega (arith, c.if-count-gt64.false);
+      enough = omega (arith, c.if-samples-count.false);
+    }
+
+-- no block has a sample beyond 32767
+narrow : (c : Else-wide-count) → c.args.count ≤ first_wide c.args.samples.now c.args.count
+narrow c = omega (arith, c.if-wide-count.false, c.first_wide-wide.ensures)
+
+-- the lowest block that is too far
+far_is : (c : After-first_far-far) → c.first_far-far.result ≡ first_far (scale_of c.args.num) c.args.samples.now c.args.count
+far_is c = c.first_far-far.ensures ∙ ap (λ (s : Float). first_far s c.args.samples.now c.args.count) c.scale_of-scale.ensures
+
+pub returns-then-num : goal.returns-then-num
+returns-then-num c =
+    let a = c.args in
+    met a.num a.count a.samples.now a.text.now _ _
+    (bad_num a.num a.count a.samples.now a.text.now (num_refused a.num c.if-num.true)) c.refused.ensures
+
+pub returns-then-count-gt64 : goal.returns-then-count-gt64
+returns-then-count-gt64 c =
+    let a = c.args in
+    met a.num a.count a.samples.now a.text.now _ _
+    (many a.num a.count a.samples.now a.text.now (num_kept a.num c.if-num.false) c.if-count-gt64.true)
+    c.refused-then-count-gt64.ensures
+
+pub returns-then-samples-count : goal.returns-then-samples-count
+returns-then-samples-count c =
+    let a = c.args in
+    met a.num a.count a.samples.now a.text.now _ _
+    (few_samples a.num a.count a.samples.now a.text.now (num_kept a.num c.if-num.false)
+    c.if-count-gt64.false c.if-samples-count.true)
+    c.refused-then-samples-count.ensures
+
+pub returns-then-wide-count : goal.returns-then-wide-count
+returns-then-wide-count c =
+    let a = c.args in
+    let n = before (goal.at.returns-then-wide-count c).Else-samples-count in
+    let w = c.first_wide-wide.ensures in
+    met a.num a.count a.samples.now a.text.now _ _
+    (wide a.num a.count a.samples.now a.text.now n.good n.few n.enough (omega (arith, c.if-wide-count.true, w)))
+    (c.refused-then-wide-count.ensures ∙ ap (refused_at 2) w)
+
+pub returns-then-far-count : goal.returns-then-far-count
+returns-then-far-count c =
+    let a = c.args in
+    let n = before (goal.at.returns-then-far-count c).Else-samples-count in
+    let f = far_is (goal.at.returns-then-far-count c).After-first_far-far in
+    met a.num a.count a.samples.now a.text.now _ _
+    (far a.num a.count a.samples.now a.text.now n.good n.few n.enough (narrow (goal.at.returns-then-far-count c).Else-wide-count)
+    (omega (arith, c.if-far-count.true, f)))
+    (c.refused-then-far-count.ensures ∙ ap (refused_at 4) f)
+
+pub returns : goal.returns
+returns c =
+    let a = c.args in
+    let n = before (goal.at.returns c).Else-samples-count in
+    let f = far_is (goal.at.returns c).After-first_far-far in
+    let w = c.words_for in
+    let e = c.form-page.ensures in
+    formed a.num a.count a.samples.now a.text.now n.good n.few n.enough (narrow (goal.at.returns c).Else-wide-count)
+    (omega (arith, c.if-far-count.false, f)) w.result
+    (w.ensures ∙ ap (λ (s : Float). words_for s a.samples.now a.count) c.scale_of-scale.ensures) _ _ e.value e.out_after
