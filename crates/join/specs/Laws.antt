@@ -7,7 +7,8 @@ use Rattle.trellis.specs.Tables.{nexts}
 use Rattle.laws.specs.Laws.Lists.{tab_at}
 use Rattle.trellis.specs.Trellis.{next_of, first_nexts}
 use Rattle.trellis.specs.Laws.Path.{next-entry-lt}
-use Rattle.trellis.specs.Laws.Rows.{next_by, next-read}
+use Rattle.trellis.proofs.Rows.{next_by}
+use Rattle.trellis.specs.Laws.Rows.{next-read}
 use Rattle.search.specs.declared.Way.{Way}
 use Rattle.search.specs.Tables.{tables}
 use Rattle.search.specs.Laws.Tables.{entry_at}

@@ -16,7 +16,7 @@ use Rattle.rows.specs.Laws.Rule.{row-length}
 use Rattle.rows.specs.Laws.Middle.{middle_row-class}
 use Rattle.trellis.specs.Trellis.{prefix_of, middle_of, next_of, suffix_of, branch_of}
 use Rattle.trellis.specs.Laws.Path.{prefix-lt, middle-lt}
-use Rattle.trellis.specs.Laws.Back.{path_word}
+use Rattle.trellis.proofs.Walk.{path_word}
 use Rattle.trellis.specs.declared.Edge.{Edge}
 use Rattle.tetra.specs.Tetra.{codeword_at, third_class, ranks_at, trio_point}
 

@@ -5,10 +5,8 @@ pub mod Words
 pub mod Code
 pub mod Path
 pub mod Rows
-pub mod States
 pub mod Look
 pub mod Back
-pub mod StateBytes
 pub mod Trio
 pub mod Numbering
 pub mod Golay

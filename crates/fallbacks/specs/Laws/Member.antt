@@ -17,7 +17,7 @@ use Rattle.trellis.specs.Trellis.{prefix_of, suffix_of}
 use Rattle.trellis.specs.Laws.Code.{bytes-even}
 use Rattle.trellis.specs.Laws.Path.{prefix-lt, suffix-lt}
 use Rattle.trellis.specs.Laws.Rows.{prefix-read, suffix-read}
-use Rattle.trellis.specs.Laws.StateBytes.{prefixes_of, suffixes_of}
+use Rattle.trellis.proofs.StateBytes.{prefixes_of, suffixes_of}
 use Rattle.tetra.specs.Laws.Point.{point_at_lem}
 use Rattle.search.specs.Record.{bit_at}
 use Rattle.search.specs.Tables.{tables, end_byte}

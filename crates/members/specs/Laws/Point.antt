@@ -16,7 +16,8 @@ use Rattle.trellis.specs.Code.{codeword_of, columns, label}
 use Rattle.trellis.specs.Laws.Code.{word_lt, bytes-even}
 use Rattle.trellis.specs.Tables.{prefixes, middles, nexts, suffixes}
 use Rattle.trellis.specs.Trellis.{prefix_of, middle_of, next_of, suffix_of, middle_sets, s8_of, b1_of, b2_of, b3_of}
-use Rattle.trellis.specs.Laws.Path.{path-at, first-at, second_at, third_at, prefix-lt, middle-lt, suffix-lt, next-lt}
+use Rattle.trellis.proofs.Path.{path-at, first-at, second_at, third_at}
+use Rattle.trellis.specs.Laws.Path.{prefix-lt, middle-lt, suffix-lt, next-lt}
 use Rattle.trellis.specs.Laws.Rows.{prefix-read, middle-read, next-read, suffix-read}
 use Rattle.trellis.specs.Laws.Back.{label-parts}
 use Rattle.trellis.specs.Laws.Trio.{trio-fits}

@@ -17,7 +17,7 @@ use Rattle.trellis.specs.Tables.{prefixes, middles, nexts, suffixes}
 use Rattle.trellis.specs.Code.{codeword_of, columns, first, second, third}
 use Rattle.trellis.specs.Laws.Code.{label_low, word_lt, bytes-even}
 use Rattle.trellis.specs.Trellis.{prefix_of, middle_of, next_of, suffix_of}
-use Rattle.trellis.specs.Laws.Path.{path-at, first-at, second_at, third_at}
+use Rattle.trellis.proofs.Path.{path-at, first-at, second_at, third_at}
 use Rattle.trellis.specs.Laws.Rows.{prefix-read, middle-read, next-read, suffix-read}
 use Rattle.tetra.specs.Lattice.{trio, LatticePoint, section, section_ranks, in_own_class, HasWord}
 use Rattle.tetra.specs.Tetra.{natural}

@@ -3,7 +3,7 @@ use mathlib.Core.Path.{sym}
 use Rattle.trellis.specs.Tables.{nexts}
 use Rattle.trellis.specs.Trellis.{next_of}
 use Rattle.trellis.specs.Laws.Path.{row_beyond, row_past, nexts-length}
-use Rattle.trellis.specs.Laws.Rows.{zero_nexts, next-sum}
+use Rattle.trellis.proofs.Rows.{zero_nexts, next-sum}
 use Rattle.trellis.proofs.next.Goals as goal
 
 pub returns-then-s8-ge64 : goal.returns-then-s8-ge64

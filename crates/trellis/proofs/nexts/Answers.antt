@@ -1,6 +1,6 @@
 use mathlib.Core.Path.{◌∙◌}
 use Rattle.trellis.specs.Tables.{nexts}
-use Rattle.trellis.specs.Laws.Rows.{zero_nexts, zero_first, first_nexts_lem}
+use Rattle.trellis.proofs.Rows.{zero_nexts, zero_first, first_nexts_lem}
 use Rattle.trellis.proofs.nexts.Goals as goal
 
 pub returns : goal.returns

@@ -10,12 +10,12 @@ use Rattle.std.proofs.Math.ListN.{length}
 use Rattle.laws.specs.Words.{seek}
 use Rattle.laws.specs.Laws.Lists.{tab-length, tab_at, seek-holds}
 use Rattle.laws.specs.Laws.Tables.{every}
-use Rattle.trellis.specs.Code.{codeword_of, columns, codewords, label, first, second, third}
+use Rattle.trellis.specs.Code.{codeword_of, columns, codewords, label}
 use Rattle.trellis.specs.Tables.{prefixes, middles, suffixes}
-use Rattle.trellis.specs.Trellis.{row, prefix_of, middle_of, next_of, suffix_of, path, s8_of, b1_of, b2_of, b3_of, s16_of, label_of}
+use Rattle.trellis.specs.Trellis.{row, prefix_of, middle_of, next_of, suffix_of, s8_of, b1_of, b2_of, b3_of, label_of}
 use Rattle.trellis.specs.Trellis.{opening_of, passage_of, closing_of, opening_says, passage_says, closing_says}
 use Rattle.trellis.specs.Laws.Path.{row-length, prefixes-length, middles-length, suffixes-length}
-use Rattle.trellis.specs.Laws.Path.{path-at, first-at, second_at, third_at, middle_up, suffix-pair, next-lt}
+use Rattle.trellis.specs.Laws.Path.{middle_up, suffix-pair}
 use Rattle.trellis.specs.Laws.Rows.{prefix-read}
 use Rattle.trellis.specs.Laws.Code.{distinct}
 use Rattle.trellis.specs.Laws.Look.{seek_is, seek-none, Distinct, found_distinct, up_distinct, says_iff, says_none}
@@ -230,7 +230,7 @@ label-none w = (
       ∙ codewords-length,
 )
 
--- ---- a whole path
+-- ---- the parts of a label (the codeword of a whole path: proofs/Walk)
 pub label-parts : (s8 b1 b2 b3 : ℕ) → s8 < 64 → b1 < 2 → b2 < 16 → b3 < 2
     → (s8_of (label s8 b1 b2 b3) ≡ s8) × (b1_of (label s8 b1 b2 b3) ≡ b1) × (b2_of (label s8 b1 b2 b3) ≡ b2) × (b3_of (label s8 b1 b2 b3) ≡ b3)
 label-parts s8 b1 b2 b3 h1 h2 h3 h4 = (omega arith, omega arith, omega arith, omega arith)
@@ -240,28 +240,3 @@ parts-label x = sum _ _ _ _ _ _ _ (mod-pow-add x 1 6) (mod-pow-add x 4 7) (mod-p
   where
     sum : (a b c d m n o : ℕ) → m ≡ b * 64 + a → n ≡ c * 128 + m → o ≡ d * 2048 + n → a + 64 * b + 128 * c + 2048 * d ≡ o
     sum a b c d m n o e f g = omega arith
-
-pub path_word : (s8 b1 b2 b3 : ℕ) → s8 < 64 → b1 < 2 → b2 < 16 → b3 < 2 → codeword_of columns (label s8 b1 b2 b3) ≡ path s8 b1 b2 b3
-path_word s8 b1 b2 b3 h1 h2 h3 h4 =
-    let q = label-parts s8 b1 b2 b3 h1 h2 h3 h4 in
-    let x = label s8 b1 b2 b3 in
-    path-at x ∙ ap₂ (λ (s b : ℕ). path s b (b2_of x) (b3_of x)) q.0 q.1 ∙ ap₂ (λ (b d : ℕ). path s8 b1 b d) q.2 q.3
-
--- the sections of a codeword lead back along its path
-pub walk_back : (x : ℕ) → (opening_of (first (codeword_of columns x)) ≡ From (s8_of x) (b1_of x))
-    × (passage_of (s8_of x) (second (codeword_of columns x)) ≡ Along (b2_of x) (s16_of x)) × (closing_of (s16_of x) (third (codeword_of columns x)) ≡ By (b3_of x))
-walk_back x =
-    let w = codeword_of columns x in (
-      opening_by _ _ ((opening_iff (first w) (s8_of x) (b1_of x)).1 (omega arith, omega arith, sym (first-at x))),
-      passage_by _ _ ((passage_iff (s8_of x) (second w) (b2_of x) (s16_of x)).1 (omega arith, omega arith, sym (second_at x), refl)),
-      closing_by _ _ ((closing_iff (s16_of x) (third w) (b3_of x)).1 (next-lt (s8_of x) (b2_of x), omega arith, sym (third_at x))),
-    )
-
--- and three bytes that lead back along a path are the sections of its codeword
-pub walk_word : (c1 c2 c3 s8 b1 b2 s16 b3 : ℕ) → opening_of c1 ≡ From s8 b1 → passage_of s8 c2 ≡ Along b2 s16 → closing_of s16 c3 ≡ By b3
-    → codeword_of columns (label s8 b1 b2 b3) ≡ c1 + 256 * c2 + 65536 * c3
-walk_word c1 c2 c3 s8 b1 b2 s16 b3 e f g =
-    let p = (opening_iff c1 s8 b1).0 (ap opening_says e) in
-    let q = (passage_iff s8 c2 b2 s16).0 (ap passage_says f) in
-    let r = (closing_iff s16 c3 b3).0 (ap closing_says g) in
-    path_word s8 b1 b2 b3 p.0 p.1 q.1 r.1 ∙ rw (p.2, q.2, q.3, r.2)

@@ -1,17 +1,15 @@
--- The tables read at one index. The branches out of every state by those out of state 0: codewords add up, and so do their middle bytes and
--- their states. One computed test each. And the pairs of a table of two entries a state. Assumes nothing.
+-- The tables read at one index. The branches out of every state by those out of state 0: codewords add up, and so do their middle bytes, by one
+-- computed test (and their states: proofs/Rows). And the pairs of a table of two entries a state. Assumes nothing.
 use Rattle.std.specs.Prelude.{◌≡◌, refl, Bool, List, [], ◌∷◌, ℕ, ◌+◌, ◌*◌, ◌/◌, ◌%◌, ◌<◌, ◌≤◌, T, eqb, length, get_or, take, drop}
-use Rattle.std.proofs.Common.{◌∙◌, sym, ap, ap₂, mul_comm, arith, eqb→eq, length-drop, get_or-take, get_or-drop}
+use Rattle.std.proofs.Common.{◌∙◌, sym, ap, ap₂, mul_comm, arith, eqb→eq, length-drop, get_or-drop}
 use Rattle.std.specs.Int.Bits.{bit_xor}
-use Rattle.std.proofs.lemmas.Nat.{xor_comm}
 use Rattle.laws.specs.Laws.Tests.{upto, below}
 use Rattle.laws.specs.Laws.Tables.{every, at}
 use Rattle.laws.specs.Words.{tab}
 use Rattle.laws.specs.Laws.Lists.{tab_at, tab-eq}
 use Rattle.trellis.specs.Tables.{prefixes, middles, nexts, suffixes}
-use Rattle.trellis.specs.Trellis.{row, pairs_of, prefix_of, middle_of, next_of, suffix_of, middle_sets, first_nexts}
-use Rattle.trellis.specs.Laws.Xor.{xor_assoc}
-use Rattle.trellis.specs.Laws.Path.{row_at, row-length, middles-length, nexts-length}
+use Rattle.trellis.specs.Trellis.{row, pairs_of, prefix_of, middle_of, next_of, suffix_of, middle_sets}
+use Rattle.trellis.specs.Laws.Path.{row_at, row-length, middles-length}
 
 -- ---- the tables read at one index
 pub prefix-read : (s b : ℕ) → b < 2 → prefix_of s b ≡ get_or prefixes (2 * s + b) 0
@@ -31,7 +29,7 @@ unfolding suffix_of
 suffix-read s b h = row_at 2 suffixes s b h
 
 -- ---- a test along each of the 64 rows of a table of sixteen entries a row
-along : (t : List ℕ) (f : ℕ → ℕ → ℕ → Bool) → length t ≡ 1024 → T (upto 64 (λ (s : ℕ). every (f s) 0 (row 16 t s)))
+pub along : (t : List ℕ) (f : ℕ → ℕ → ℕ → Bool) → length t ≡ 1024 → T (upto 64 (λ (s : ℕ). every (f s) 0 (row 16 t s)))
     → (s b : ℕ) → s < 64 → b < 16 → T (f s b (get_or (row 16 t s) b 0))
 along t f e all s b h k =
     at (f s) (row 16 t s) (below 64 (λ (r : ℕ). every (f r) 0 (row 16 t r)) all s h) b (omega (arith, row-length 16 t s (omega arith)))
@@ -54,30 +52,6 @@ pub middle-sum : (s b : ℕ) → s < 64 → b < 16 → bit_xor (get_or zero_midd
 unfolding middle_sum middle_of
 middle-sum s b h k = eqb→eq _ _ (along middles middle_sum middles-length middle-sums s b h k)
 
--- ---- next states: those of state 0
-unfoldable pub zero_nexts : List ℕ
-zero_nexts = row 16 nexts 0
-
-next_sum : ℕ → ℕ → ℕ → Bool
-next_sum s b x = eqb (bit_xor (bit_xor (s / 8) (get_or zero_nexts (s % 8) 0)) (get_or zero_nexts b 0)) x
-
-next-sums : T (upto 64 (λ (s : ℕ). every (next_sum s) 0 (row 16 nexts s)))
-unfolding next_sum zero_nexts nexts
-next-sums = tt
-
-pub next-sum : (s b : ℕ) → s < 64 → b < 16 → bit_xor (bit_xor (s / 8) (get_or zero_nexts (s % 8) 0)) (get_or zero_nexts b 0) ≡ next_of s b
-unfolding next_sum next_of
-next-sum s b h k = eqb→eq _ _ (along nexts next_sum nexts-length next-sums s b h k)
-
--- a state leads where the state of its remainder by 8 does, with the bits of its quotient turned
-pub next_by : (s b : ℕ) → s < 64 → b < 16 → bit_xor (s / 8) (next_of (s % 8) b) ≡ next_of s b
-next_by s b h k =
-    let q : s % 8 / 8 ≡ 0 = omega arith in
-    let r : s % 8 % 8 ≡ s % 8 = omega arith in
-    ap (bit_xor (s / 8))
-    (sym (next-sum (s % 8) b (omega arith) k) ∙ ap₂ (λ (x y : ℕ). bit_xor (bit_xor x (get_or zero_nexts y 0)) (get_or zero_nexts b 0)) q r)
-    ∙ sym (xor_assoc (s / 8) (get_or zero_nexts (s % 8) 0) (get_or zero_nexts b 0)) ∙ next-sum s b h k
-
 -- ---- each of eight numbers added to all of sixteen
 unfoldable pub sums_of : List ℕ → List ℕ → List ℕ
 sums_of first row = tab (λ (i : ℕ). bit_xor (get_or row (i % 16) 0) (get_or first (i / 16) 0)) 128
@@ -89,21 +63,6 @@ middle_sets_lem =
     (λ i h.
     let q : i / 16 ≡ 8 * (i / 16) / 8 = omega arith in
     ap (λ (n : ℕ). bit_xor (get_or zero_middles (i % 16) 0) (get_or set_firsts n 0)) q ∙ middle-sum (8 * (i / 16)) (i % 16) (omega arith) (omega arith))
-
-unfoldable pub zero_first : List ℕ
-zero_first = take 8 zero_nexts
-
-pub first_nexts_lem : sums_of zero_first zero_nexts ≡ first_nexts
-unfolding sums_of first_nexts zero_first
-first_nexts_lem =
-    tab-eq ℕ 0 (λ (i : ℕ). bit_xor (get_or zero_nexts (i % 16) 0) (get_or (take 8 zero_nexts) (i / 16) 0)) (λ (i : ℕ). next_of (i / 16) (i % 16)) 128
-    (λ i h.
-    let q : 0 ≡ i / 16 / 8 = omega arith in
-    let r : i / 16 ≡ i / 16 % 8 = omega arith in
-    ap (bit_xor (get_or zero_nexts (i % 16) 0)) (get_or-take 8 zero_nexts (i / 16) 0 (omega arith))
-    ∙ xor_comm (get_or zero_nexts (i % 16) 0) (get_or zero_nexts (i / 16) 0)
-    ∙ ap₂ (λ (x y : ℕ). bit_xor (bit_xor x (get_or zero_nexts y 0)) (get_or zero_nexts (i % 16) 0)) q r
-    ∙ next-sum (i / 16) (i % 16) (omega arith) (omega arith))
 
 -- ---- an entry of a pair is that of the table
 pub pair_at_lem : (t : List ℕ) (s b : ℕ) → s < 64 → b < 2 → get_or (get_or (pairs_of t) s []) b 0 ≡ get_or t (2 * s + b) 0

@@ -15,7 +15,8 @@ use Rattle.trellis.specs.Code.{codeword_of, columns}
 use Rattle.trellis.specs.Trellis.{s8_of, b2_of, s16_of, next_of}
 use Rattle.trellis.specs.Sharing.{OneSide, Sum, none, plus, Share, Numbered}
 use Rattle.trellis.specs.Laws.Linear.{linear, compose, powers, powers_word, word_low, word_zero}
-use Rattle.trellis.specs.Laws.Path.{next_tree, next-tree, next-lt}
+use Rattle.trellis.proofs.Path.{next_tree, next-tree}
+use Rattle.trellis.specs.Laws.Path.{next-lt}
 use Rattle.trellis.specs.Tables.{nexts}
 use Rattle.trellis.specs.Laws.Words.{words, words_of, words_at_lem, words-length, at_words}
 use Rattle.trellis.specs.Laws.Code.{label_low, back_at, back_columns}

@@ -3,9 +3,9 @@ use Rattle.std.specs.Prelude.{◌≡◌, ◌↔◌, ℕ, ◌<◌}
 use Rattle.std.proofs.Common.{◌∙◌, sym, ap, ap₂, arith}
 use Rattle.trellis.specs.Code.{codeword_of, columns, label, first, second, third}
 use Rattle.trellis.specs.Trellis.{prefix_of, middle_of, next_of, suffix_of, s8_of, b1_of, b2_of, b3_of, s16_of}
-use Rattle.trellis.specs.Laws.Path.{first-at, second_at, third_at}
+use Rattle.trellis.proofs.Path.{first-at, second_at, third_at}
 use Rattle.trellis.specs.Laws.Back.{label-parts}
-use Rattle.trellis.specs.Laws.States.{states_16}
+use Rattle.trellis.proofs.States.{states_16}
 
 pub prefixes_of : (s8 : ℕ) → s8 < 64 → (c1 : ℕ)
     → ((x : ℕ) × (s8_of x ≡ s8) × (first (codeword_of columns x) ≡ c1)) ↔ ((b1 : ℕ) × (b1 < 2) × (prefix_of s8 b1 ≡ c1))
