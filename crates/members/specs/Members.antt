@@ -10,7 +10,7 @@ use Rattle.tetra.specs.Demand2 as words
 use Rattle.search.specs.Parity.{both_parities, even_parities}
 use Rattle.search.specs.Tables.{tables}
 use Rattle.search.specs.Block.{rule_of, targets_of, point_from, winner_for}
-use Rattle.search.specs.Laws.Parity.{found_among}
+use Rattle.search.proofs.Parity.{found_among}
 use Rattle.nearest.specs.Laws.Searched.{both-lt, only_zero, even-lt}
 use Rattle.members.specs.Accepted.{Accepted}
 use Rattle.members.specs.Laws.Search.{finds, point-has_word, point-parity}

@@ -1,0 +1,2 @@
+-- theorems that rest on the search over parities
+pub mod Parity
