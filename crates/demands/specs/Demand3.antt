@@ -16,8 +16,9 @@ use Rattle.search.specs.Parity.{both_parities, even_parities}
 use Rattle.search.specs.Block.{winner_for, point_from}
 use Rattle.encoder.specs.Encode.{number_at, encode_at_over, encode_at_scale}
 use Rattle.encoder.specs.Numbers.{zero_says}
-use Rattle.nearest.specs.Nearest.{Nearest, doubles, nearest}
-use Rattle.nearest.specs.OnPoint.{on_a_point}
+use Rattle.nearest.specs.Nearest.{Nearest, doubles}
+use Rattle.nearest.proofs.Nearest.{nearest}
+use Rattle.nearest.proofs.OnPoint.{on_a_point}
 use Rattle.nearest.specs.Laws.Link.{p-lt}
 use Rattle.nearest.specs.Laws.Searched.{both-lt, in_both, only_zero, even-lt}
 use Rattle.demands.specs.Promised.{Even, Returns}

@@ -24,7 +24,7 @@ pub mod Steps
 pub mod Pairs
 pub mod Bases
 pub mod Solve
--- all of it put together, by sections and in trio order
+-- the premises of all of it put together, by sections; the lattice in trio order
 pub mod Premises
 pub mod Reach
 pub mod Sections
@@ -32,7 +32,6 @@ pub mod Sections
 pub mod Packed
 pub mod TableFacts
 pub mod Link
--- what is searched; the theorem in natural order; a point as its own target
+-- what is searched; a point as its own target
 pub mod Searched
-pub mod Natural
 pub mod OnPoint

@@ -1,4 +1,4 @@
--- the statement and the theorem; that the premises can be met, and what demand 3 rejects
+-- the statement (the theorem: proofs/Nearest); that the premises can be met, and what demand 3 rejects
 pub mod Nearest
 pub mod OnPoint
 -- their proof

@@ -4,20 +4,16 @@
 -- What the words mean. The target of a call is x / s, 24 doubles (`quotients_of`, float/specs/Calls), which are finite where samples and scale
 -- are accepted. `LatticePoint` and `HasWord` are those of document 01 (tetra/specs/Lattice): points are lists of 24 whole numbers in natural
 -- order. `sq_dist y t` is the exact squared distance in units of 2 ^ -2148 (float/specs/Distance), and `margin` is 2 ^ -20 in those units.
--- `winner_for ps n t` is the answer of the search over the parities ps at setting n (search/specs/Block), `point_from` its point. Over the
--- public call the theorem is `nearest-at_scale` (demands/specs/Demand3). Assumes nothing.
+-- `winner_for ps n t` is the answer of the search over the parities ps at setting n (search/specs/Block), `point_from` its point. The theorem is
+-- `nearest` (proofs/Nearest), over the public call `nearest-at_scale` (demands/specs/Demand3). Assumes nothing.
 use Rattle.std.specs.Prelude.{◌≡◌, ◌≢◌, true, ℕ, ◌+◌, ◌<◌, T, get_or, length, ℤ, Float}
 use mathlib.Core.List.{List, map, Memᴰ}
 use Rattle.std.specs.Float.{nan, binary64}
 use Rattle.std.specs.Float.Ieee.{fits, of_int}
 use Rattle.std.specs.Float.Ieee.Scale.{finite}
 use Rattle.float.specs.Distance.{sq_dist, margin}
-use Rattle.tetra.specs.Lattice.{LatticePoint, HasWord}
-use Rattle.search.specs.Parity.{both_parities, even_parities}
-use Rattle.search.specs.Block.{rule_of, winner_for, point_from}
-use Rattle.nearest.specs.Laws.Link.{p-lt}
-use Rattle.nearest.specs.Laws.Searched.{rule_ok, both-lt, in_both, only_zero, even-lt}
-use Rattle.nearest.specs.Laws.Natural.{answered}
+use Rattle.tetra.specs.Lattice.{LatticePoint}
+use Rattle.search.specs.Block.{winner_for, point_from}
 
 -- ---- the statement
 -- a target: 24 numbers, each a double (`fits binary64`) and finite
@@ -38,23 +34,3 @@ Nearest ps y t = (z : List ℤ) (Z : LatticePoint z) → Memᴰ Z.p ps → z ≢
 pub record Finds (ps : List ℕ) (n : ℕ) (t : List Float) (y : List ℤ) : Type 0 where
   pub found : (winner_for ps n t).found ≡ true
   pub point : point_from (winner_for ps n t) ≡ y
-
--- ---- the theorem, for any parities searched
-pub nearest : (ps : List ℕ) → ((q : ℕ) → Memᴰ q ps → q < 2)
-    → (t : List Float) → Target t
-    → (y : List ℤ) (W : HasWord y) → Memᴰ W.point.p ps → Nearest ps y t
-    → (n : ℕ) → Finds ps n t y
-nearest ps PS t D y W m H n =
-    let a = answered t D.size D.double D.bounded ps PS y W m H (rule_of n) (rule_ok n) in record { found = a.0; point = a.1 }
-
--- ---- the full coder searches both parities: the lattice points are all there are
-pub nearest_full : (t : List Float) → Target t → (y : List ℤ) → HasWord y
-    → ((z : List ℤ) → LatticePoint z → z ≢ y → sq_dist y t + margin < sq_dist z t)
-    → (n : ℕ) → Finds both_parities n t y
-nearest_full t D y W H = nearest both_parities both-lt t D y W (in_both W.point.p (p-lt y W.point)) (λ z Z i d. H z Z d)
-
--- ---- the even profile searches parity 0: the lattice points are the even ones
-pub nearest-even : (t : List Float) → Target t → (y : List ℤ) (W : HasWord y) → W.point.p ≡ 0
-    → ((z : List ℤ) (Z : LatticePoint z) → Z.p ≡ 0 → z ≢ y → sq_dist y t + margin < sq_dist z t)
-    → (n : ℕ) → Finds even_parities n t y
-nearest-even t D y W e H = nearest even_parities even-lt t D y W (Memᴰ.head e) (λ z Z m d. H z Z (only_zero Z.p m) d)

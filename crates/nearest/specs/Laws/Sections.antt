@@ -1,32 +1,23 @@
--- The theorem in trio order and for any tables: 24 doubles, 24 whole numbers, the lattice by parity, path and sum of k, the exact squared
--- distance in units of 2 ^ -2148.
-use Rattle.std.specs.Prelude.{◌≡◌, refl, ◌≢◌, ◌⊎◌, Bool, true, cond, ℕ, zero, suc, ◌+◌, ◌-◌, ◌*◌, ◌/◌, ◌%◌, ◌≤◌, ◌<◌, T, ltb, get_or, length, ℤ, pos, Float}
+-- The lattice in trio order and for any tables: 24 doubles, 24 whole numbers, the lattice by parity, path and sum of k, the exact squared
+-- distance in units of 2 ^ -2148. The theorem over it: proofs/Sections.
+use Rattle.std.specs.Prelude.{◌≡◌, refl, ◌≢◌, ◌⊎◌, Bool, cond, ℕ, zero, suc, ◌+◌, ◌-◌, ◌*◌, ◌/◌, ◌%◌, ◌≤◌, ◌<◌, ltb, get_or, length, ℤ, pos, Float}
 use Rattle.std.proofs.Common.{sym, ap, ◌∙◌, subst, inl, inr, le_trans, le_of_eq, not-le_of_lt, mod-lt, zero-lt-suc, arith, lt-ltb, le-ltb}
 use Rattle.std.proofs.Math.Path.{ap₂}
 use mathlib.Core.List.{List, Memᴰ}
 use Rattle.std.proofs.Math.Nat.{add-mod, mod-add-mod, add-sub_cancel_left}
 use Rattle.std.proofs.Math.IntN.{ℤ_discrete}
-use Rattle.std.specs.Float.{nan, binary64}
-use Rattle.std.specs.Float.Ieee.{fits}
-use Rattle.std.specs.Float.Ieee.Scale.{finite}
+use Rattle.std.specs.Float.{nan}
 use Rattle.float.specs.Distance.{coord_gap}
 use Rattle.laws.specs.Words.{tab}
 use Rattle.laws.specs.Laws.Lists.{tab_at, tab-length}
 use Rattle.laws.specs.Laws.Order.{le-or-lt}
-use Rattle.search.specs.Tables.{Tables, class_of}
-use Rattle.search.specs.Entries.{Rule}
-use Rattle.search.specs.Parity.{Targets, search}
+use Rattle.search.specs.Tables.{Tables}
+use Rattle.search.specs.Parity.{Targets}
 use Rattle.search.specs.Record.{member, bit_at}
-use Rattle.search.specs.declared.Closed.{Closed}
-use Rattle.search.specs.declared.Winner.{Winner}
-use Rattle.search.specs.Block.{sections, winner_at}
-use Rattle.nearest.specs.Laws.Forms.{odd_k, sum_to, par_k, RowOf, RuleOk, at24}
+use Rattle.search.specs.Block.{sections}
+use Rattle.nearest.specs.Laws.Forms.{odd_k, sum_to, par_k, at24}
 use Rattle.nearest.specs.Laws.Sums.{sum_same}
-use Rattle.nearest.specs.Laws.Lattice.{Sec, Point, Same, dist8, dist24, Margin, M, own1, own2, own3}
-use Rattle.nearest.specs.Laws.Winner.{GoodTables, sec_of}
-use Rattle.nearest.specs.Laws.Parities.{IsY}
-use Rattle.nearest.specs.Laws.Premises.{MoreTables, HasRows, Target16, class-cost, all-facts, demand_three}
-use Rattle.nearest.specs.Laws.Reach.{within4, row_small, below16}
+use Rattle.nearest.specs.Laws.Lattice.{Point, Same, dist8, dist24, Margin, M}
 
 -- the codeword of index x in trio order, c1 + 256 c2 + 65536 c3; x packs s8, b1, b2, b3 at 0, 6, 7, 11
 abbrev pub path_of : Tables → ℕ → ℕ
@@ -90,13 +81,13 @@ pub bit_c : (a b c : ℕ) → a < 256 → b < 256 → (j : ℕ) → j < 8 → bi
 bit_c a b c A B = eight (λ j. bit_at (a + 256 * b + 65536 * c) (16 + j) ≡ bit_at c j) (omega arith) (omega arith) (omega arith) (omega arith)
     (omega arith) (omega arith) (omega arith) (omega arith)
 
-abbrev sec1 : List ℤ → ℕ → ℤ
+abbrev pub sec1 : List ℤ → ℕ → ℤ
 sec1 z j = at24 z j
 
-abbrev sec2 : List ℤ → ℕ → ℤ
+abbrev pub sec2 : List ℤ → ℕ → ℤ
 sec2 z j = at24 z (8 + j)
 
-abbrev sec3 : List ℤ → ℕ → ℤ
+abbrev pub sec3 : List ℤ → ℕ → ℤ
 sec3 z j = at24 z (16 + j)
 
 pub up8 : {j : ℕ} → j < 8 → j < 24
@@ -289,13 +280,13 @@ module _ (g : Tables) (B : Bytes g) where
     abbrev S : Targets
     S = sections t
 
-    tt1 : (j : ℕ) → j < 8 → get_or S.t1 j nan ≡ get_or t j nan
+    pub tt1 : (j : ℕ) → j < 8 → get_or S.t1 j nan ≡ get_or t j nan
     tt1 j h = tab_at Float nan (λ j. get_or t j nan) 8 j h
 
-    tt2 : (j : ℕ) → j < 8 → get_or S.t2 j nan ≡ get_or t (8 + j) nan
+    pub tt2 : (j : ℕ) → j < 8 → get_or S.t2 j nan ≡ get_or t (8 + j) nan
     tt2 j h = tab_at Float nan (λ j. get_or t (8 + j) nan) 8 j h
 
-    tt3 : (j : ℕ) → j < 8 → get_or S.t3 j nan ≡ get_or t (16 + j) nan
+    pub tt3 : (j : ℕ) → j < 8 → get_or S.t3 j nan ≡ get_or t (16 + j) nan
     tt3 j h = tab_at Float nan (λ j. get_or t (16 + j) nan) 8 j h
 
     abbrev sqc : ℤ → Float → ℕ
@@ -321,7 +312,7 @@ module _ (g : Tables) (B : Bytes g) where
     module _ (ps : List ℕ) (PS : (q : ℕ) → Memᴰ q ps → q < 2) (y : List ℤ)
         (H24 : (z : List ℤ) (L : LeechTrio g z) → Memᴰ L.p ps → z ≢ y → sq_dist24 y t + M < sq_dist24 z t) where
       -- the margin turned round
-      margin : Margin g S ps (sec1 y) (sec2 y) (sec3 y)
+      pub margin : Margin g S ps (sec1 y) (sec2 y) (sec3 y)
       unfolding leech_of
       margin p I0 z1 z2 z3 Q le = (
         λ j h. one j (z1 j) (at_1 z1 z2 z3 j h),
@@ -347,50 +338,3 @@ module _ (g : Tables) (B : Bytes g) where
               go : Dec (v ≡ at24 y j) → v ≡ at24 y j
               go (yes q) = q
               go (no d) = absurd (differ (λ (q : whole z1 z2 z3 ≡ y). d (sym e ∙ ap (λ (z : List ℤ). at24 z j) q)))
-
-      module _ (G0 : GoodTables g) (G1 : MoreTables g) (u : Rule) (U0 : RuleOk u) (L : LeechTrio g y) (I0 : Memᴰ L.p ps)
-          (W : HasRows g L.p (point_of_lem y L))
-          (fit : (j : ℕ) → j < 24 → T (fits binary64 (get_or t j nan))) (fin : (j : ℕ) → j < 24 → T (finite (get_or t j nan))) where
-        abbrev Y : Point g L.p (sec1 y) (sec2 y) (sec3 y)
-        Y = point_of_lem y L
-
-        -- the target's section ts, which starts at the place `at 0`, is below 16
-        small : (ts : List Float) (at : ℕ → ℕ) (c r : ℕ) (b : Closed) → b.cost ≤ 96 → (s : ℕ → ℤ) → RowOf L.p c b s → Sec L.p c r s
-            → ((z : ℕ → ℤ) → Sec L.p c r z → dist8 z ts ≤ dist8 s ts + M → Same z s)
-            → ((j : ℕ) → j < 8 → get_or ts j nan ≡ get_or t (at j) nan) → ((j : ℕ) → j < 8 → at j < 24) → (j : ℕ) → j < 8 → Target16 (get_or ts j nan)
-        small ts at c r b B0 s R S own e up j h =
-            below16 (s j) (get_or ts j nan) (subst (λ (x : Float). T (fits binary64 x)) (sym (e j h)) (fit (at j) (up j h)))
-            (subst (λ (x : Float). T (finite x)) (sym (e j h)) (fin (at j) (up j h))) (row_small L.p c L.p-lt b B0 s R j h)
-            (within4 ts L.p c r L.p-lt s own S j h)
-
-        small1 : (j : ℕ) → j < 8 → Target16 (get_or S.t1 j nan)
-        small1 =
-            small S.t1 (λ j. j) (get_or g.pre (2 * Y.s8 + Y.b1) 0) Y.r1 (class_of g Y.r1) (class-cost g G1 Y.r1) (sec1 y) W.one
-            Y.sec1 (own1 g S ps L.p I0 (sec1 y) (sec2 y) (sec3 y) Y margin Y.b1 Y.b1-lt) tt1 (λ j. up8)
-
-        small2 : (j : ℕ) → j < 8 → Target16 (get_or S.t2 j nan)
-        small2 =
-            small S.t2 (λ j. 8 + j) (get_or g.mid (Y.s8 * 16 + Y.b2) 0) Y.r2 g.mixed G1.cost_m (sec2 y) W.two Y.sec2
-            (own2 g S ps L.p I0 (sec1 y) (sec2 y) (sec3 y) Y margin) tt2 (λ j. up16)
-
-        small3 : (j : ℕ) → j < 8 → Target16 (get_or S.t3 j nan)
-        small3 =
-            let r = (L.p + Y.r1 + Y.r2) % 2 in
-            small S.t3 (λ j. 16 + j) (get_or g.suf (2 * get_or g.nxt (Y.s8 * 16 + Y.b2) 0 + Y.b3) 0) r (class_of g r) (class-cost g G1 r)
-            (sec3 y) W.three Y.sec3 (own3 g S ps L.p I0 (sec1 y) (sec2 y) (sec3 y) Y margin Y.b3 Y.b3-lt) tt3 (λ j. up24)
-
-        is_y : IsY g u S G0 ps PS (λ q i. all-facts g G1 u U0 S small1 small2 small3 q (PS q i)) (sec1 y) (sec2 y) (sec3 y) margin (search g u S ps)
-        is_y = demand_three g G0 G1 u U0 S small1 small2 small3 ps PS L.p I0 (sec1 y) (sec2 y) (sec3 y) Y W margin
-
-        pub point_at_lem : (j : ℕ) → j < 24 → winner_at (search g u (sections t) ps) j ≡ at24 y j
-        unfolding glue
-        point_at_lem = all24 (λ j. winner_at (search g u (sections t) ps) j ≡ at24 y j)
-            (λ j h. glue1 (sec_of w.p w.s1) (sec_of w.p w.s2) (sec_of w.p w.s3) j h ∙ is_y.one j h)
-            (λ j h. glue2 (sec_of w.p w.s1) (sec_of w.p w.s2) (sec_of w.p w.s3) j h ∙ is_y.two j h)
-            (λ j h. glue3 (sec_of w.p w.s1) (sec_of w.p w.s2) (sec_of w.p w.s3) j h ∙ is_y.three j h)
-          where
-            w : Winner
-            w = search g u (sections t) ps
-
-        pub is_found : (search g u (sections t) ps).found ≡ true
-        is_found = is_y.found

@@ -19,7 +19,8 @@ use Rattle.search.specs.Parity.{search}
 use Rattle.search.specs.Block.{coordinate, trio_of, targets_of, winner_at, place, point_from}
 use Rattle.nearest.specs.Laws.Forms.{sum_to, RuleOk, at24}
 use Rattle.nearest.specs.Laws.Sums.{sum_same, sum_front}
-use Rattle.nearest.specs.Laws.Sections.{LeechTrio, sq_dist24, point_at_lem, is_found}
+use Rattle.nearest.specs.Laws.Sections.{LeechTrio, sq_dist24}
+use Rattle.nearest.proofs.Sections.{point_at_lem, is_found}
 use Rattle.nearest.specs.Laws.TableFacts.{tables-bytes, tables-good, tables_more}
 use Rattle.nearest.specs.Laws.Link.{leech, leech_parity, has-rows, lattice, lattice_parity}
 
