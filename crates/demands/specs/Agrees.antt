@@ -14,7 +14,7 @@ use Rattle.search.specs.Tables.{tables}
 use Rattle.search.specs.Parity.{both_parities, even_parities}
 use Rattle.search.specs.Block.{rule_of, targets_of, winner_for}
 use Rattle.search.proofs.Parity.{even_stays}
-use Rattle.members.specs.Members.{parity_is}
+use Rattle.members.proofs.Members.{parity_is}
 use Rattle.encoder.specs.declared.Code.{Code}
 use Rattle.encoder.specs.Encode.{code_of, code_for, number_at, encode_at_over, encode_at_scale}
 use Rattle.encoder.specs.Numbers.{zero_says, at-accepted, at-refused}

@@ -12,7 +12,7 @@ use Rattle.tetra.specs.Points.{P}
 use Rattle.score.specs.Samples.{AllFit}
 use Rattle.search.specs.Parity.{both_parities, even_parities}
 use Rattle.nearest.specs.OnPoint.{origin}
-use Rattle.members.specs.Members.{has_word, has_word-even, is_even}
+use Rattle.members.proofs.Members.{has_word, has_word-even, is_even}
 use Rattle.encoder.specs.Encode.{number_at, encode_at_over, encode_at_scale, number_of, encode_over, encode_with}
 use Rattle.demands.specs.Promised.{Even, Coded}
 use Rattle.demands.specs.Laws.Coded.{at_scale_over, samples_over}

@@ -1,49 +1,19 @@
 -- Demand 2, for samples: at any 24 doubles of at most a million in size, and any setting of the shrinks, the search at one scale finds a path,
--- and its point has a word; so that word decodes to the point, and the point encodes to the word. For the full coder the theorems are `found`,
--- `has_word`, `encodes` and `parity_is`, for the even profile `found-even`, `has_word-even`, `encodes-even` and `is_even`. Assumes nothing.
+-- and its point has a word; so that word decodes to the point, and the point encodes to the word. For the full coder the theorems are `found`
+-- and, in proofs/Members, `has_word`, `encodes` and `parity_is`; for the even profile `found-even` and, there, `has_word-even`, `encodes-even`
+-- and `is_even`. Assumes nothing.
 use Rattle.std.specs.Prelude.{◌≡◌, true, List, ℕ, Float}
-use Rattle.std.proofs.Common.{subst, zero-lt-suc}
-use Rattle.tetra.specs.Lattice.{HasWord}
-use Rattle.tetra.specs.Encode.{encode_of}
-use Rattle.tetra.specs.Why.{OfParity}
-use Rattle.tetra.specs.Demand2 as words
+use Rattle.std.proofs.Common.{zero-lt-suc}
 use Rattle.search.specs.Parity.{both_parities, even_parities}
-use Rattle.search.specs.Tables.{tables}
-use Rattle.search.specs.Block.{rule_of, targets_of, point_from, winner_for}
-use Rattle.search.proofs.Parity.{found_among}
-use Rattle.nearest.specs.Laws.Searched.{both-lt, only_zero, even-lt}
+use Rattle.search.specs.Block.{winner_for}
+use Rattle.nearest.specs.Laws.Searched.{both-lt, even-lt}
 use Rattle.members.specs.Accepted.{Accepted}
-use Rattle.members.specs.Laws.Search.{finds, point-has_word, point-parity}
+use Rattle.members.specs.Laws.Search.{finds}
 
 -- ---- the full coder
 pub found : (t : List Float) → Accepted t → (n : ℕ) → (winner_for both_parities n t).found ≡ true
 found t A n = finds t A n both_parities (zero-lt-suc 1) both-lt
 
-pub has_word : (t : List Float) → Accepted t → (n : ℕ) → HasWord (point_from (winner_for both_parities n t))
-has_word t A n = point-has_word t A n both_parities (zero-lt-suc 1) both-lt
-
--- the point is accepted, with a word that decodes to it
-pub encodes : (t : List Float) → Accepted t → (n : ℕ)
-    → words.Accepted (point_from (winner_for both_parities n t)) (encode_of (point_from (winner_for both_parities n t)))
-encodes t A n = words.accepts (point_from (winner_for both_parities n t)) (has_word t A n)
-
 -- ---- the even profile
 pub found-even : (t : List Float) → Accepted t → (n : ℕ) → (winner_for even_parities n t).found ≡ true
 found-even t A n = finds t A n even_parities (zero-lt-suc 0) even-lt
-
-pub has_word-even : (t : List Float) → Accepted t → (n : ℕ) → HasWord (point_from (winner_for even_parities n t))
-has_word-even t A n = point-has_word t A n even_parities (zero-lt-suc 0) even-lt
-
-pub encodes-even : (t : List Float) → Accepted t → (n : ℕ)
-    → words.Accepted (point_from (winner_for even_parities n t)) (encode_of (point_from (winner_for even_parities n t)))
-encodes-even t A n = words.accepts (point_from (winner_for even_parities n t)) (has_word-even t A n)
-
--- ---- the coordinates have the winner's parity; so in the even profile they are even
-pub parity_is : (t : List Float) → Accepted t → (n : ℕ) → OfParity (point_from (winner_for both_parities n t)) (winner_for both_parities n t).p
-parity_is t A n = point-parity t A n both_parities (zero-lt-suc 1) both-lt
-
-pub is_even : (t : List Float) → Accepted t → (n : ℕ) → OfParity (point_from (winner_for even_parities n t)) 0
-is_even t A n =
-    subst (OfParity (point_from (winner_for even_parities n t)))
-    (only_zero (winner_for even_parities n t).p (found_among tables (rule_of n) (targets_of t) even_parities (found-even t A n)))
-    (point-parity t A n even_parities (zero-lt-suc 0) even-lt)

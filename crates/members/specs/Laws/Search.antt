@@ -7,21 +7,18 @@ use Rattle.std.specs.Float.{nan}
 use Rattle.std.specs.Float.Ieee.{lt}
 use Rattle.laws.specs.Laws.Lists.{tab_at}
 use Rattle.trellis.specs.Laws.Trio.{trio-fits}
-use Rattle.tetra.specs.Lattice.{HasWord}
-use Rattle.tetra.specs.Why.{OfParity}
 use Rattle.search.specs.declared.Winner.{Winner}
 use Rattle.search.specs.Solve.{infinity}
 use Rattle.search.specs.Tables.{tables}
 use Rattle.search.specs.Entries.{Rule}
 use Rattle.search.specs.Parity.{Targets, parity, nobody, cost_of, choose, search_over, search}
-use Rattle.search.specs.Block.{rule_of, coordinate, trio_of, targets_of, point_from, winner_for}
+use Rattle.search.specs.Block.{rule_of, coordinate, trio_of, targets_of, winner_for}
 use Rattle.nearest.specs.Laws.Parities.{choose-either, over_each}
 use Rattle.nearest.specs.Laws.Searched.{rule_ok}
 use Rattle.nearest.specs.Laws.Sections.{up8, up16, up24}
 use Rattle.members.specs.Accepted.{Accepted}
 use Rattle.members.specs.Laws.Sizes.{Target}
 use Rattle.members.specs.Laws.Paths.{Through, found-through, first_found}
-use Rattle.members.specs.Laws.Point.{winner_word, winner-parity}
 
 -- ---- the sections' targets
 module _ (t : List Float) (A : Accepted t) where
@@ -84,16 +81,8 @@ module _ (t : List Float) (A : Accepted t) where
         over_found qs (choose nobody (parity tables u ts q infinity))
         (choose-first (parity tables u ts q infinity) (first_found u (rule_ok n) ts target1 target2 target3 q (i q (Memᴰ.head refl))))
 
-    -- so its winner goes through three members,
-    winner-good : (ps : List ℕ) → 0 < length ps → ((q : ℕ) → Memᴰ q ps → q < 2)
+    -- so its winner goes through three members (its point has a word: proofs/Search)
+    pub winner-good : (ps : List ℕ) → 0 < length ps → ((q : ℕ) → Memᴰ q ps → q < 2)
         → ((winner_for ps n t).p < 2) × Through (winner_for ps n t).p (winner_for ps n t).s1 (winner_for ps n t).s2 (winner_for ps n t).s3
     unfolding search
     winner-good ps l i = over_good ps i nobody (λ q. absurd (subst T (sym q) tt)) (finds ps l i)
-
-    -- and its point has a word, and coordinates of the winner's parity
-    pub point-has_word : (ps : List ℕ) → 0 < length ps → ((q : ℕ) → Memᴰ q ps → q < 2) → HasWord (point_from (winner_for ps n t))
-    point-has_word ps l i = let g = winner-good ps l i in winner_word (winner_for ps n t) g.0 g.1
-
-    pub point-parity : (ps : List ℕ) → 0 < length ps → ((q : ℕ) → Memᴰ q ps → q < 2)
-        → OfParity (point_from (winner_for ps n t)) (winner_for ps n t).p
-    point-parity ps l i = let g = winner-good ps l i in winner-parity (winner_for ps n t) g.0 g.1
