@@ -1,5 +1,5 @@
--- What a call that reads a page answers and leaves, and what `page::parse` answers, as `yultarvas_parse_page` hands it on. Assumes nothing.
-use mathlib.Core.Path.{◌≡◌, refl, ap, ◌∙◌}
+-- What `page::parse` answers, as `yultarvas_parse_page` hands it on. Assumes nothing.
+use mathlib.Core.Path.{◌≡◌, refl, ap}
 use mathlib.Core.Bool.{cond}
 use mathlib.Core.List.{List}
 use Prim.Native.Nat.{ℕ, ◌≤◌}
@@ -7,28 +7,12 @@ use native.Mathlib.Omega.{arith}
 use lib.Dec.{ltb}
 use lib.ListN.{length, take}
 use lib.Seq.{take-append_seam}
-use Rattle.page.specs.declared.PageRead.{PageRead}
 use Rattle.page.specs.declared.Parsed.{Parsed}
 use Rattle.page.specs.Answer.{Reading, page, malformed, number_in, num_in, words_in, parsed_of}
 use Rattle.page.specs.Reader.{reading_of}
 use Rattle.page.specs.PageRule.{only_pages}
-use Rattle.yultarvas.specs.Calls.{left, words_number}
-use Rattle.yultarvas.proofs.Answers.{refused, written}
+use Rattle.yultarvas.specs.Calls.{words_number}
 
--- ---- counts: the answer p, which is d, and the count of blocks into a cell that held `was`
-module _ (p d : PageRead) (e : p ≡ d) (was : ℕ) where
-  number_is : p.number ≡ d.number
-  number_is = ap (λ (a : PageRead). a.number) e
-
-  pub read-refused : (p.number ≡ 0 → ⊥) → (p.number ≡ d.number) × (was ≡ left d.number d.count was)
-  read-refused = refused ℕ d.number d.count was p.number number_is
-
-  pub read_done : p.number ≡ 0 → (0 ≡ d.number) × (p.count ≡ left d.number d.count was)
-  read_done z =
-      let r = written ℕ d.number d.count was p.number number_is z in
-      (r.0, ap (λ (a : PageRead). a.count) e ∙ r.1)
-
--- ---- words
 -- a number other than 0 is that of no page
 pub no_page_lem : (R : Reading) (p : Parsed) (old : List ℕ) → p ≡ parsed_of R → (p.number ≡ 0 → ⊥) → p.number ≡ words_number R old
 unfolding parsed_of number_in

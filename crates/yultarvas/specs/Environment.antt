@@ -1,7 +1,7 @@
 -- What a host asks before it relies on the doubles: two sums for the rounding, one for subnormal numbers.
 -- Definitions, and that over the doubles of the contracts the answer is the good one. On a thread that rounds
 -- otherwise, or flushes, the same sums come out otherwise.
-use Rattle.std.specs.Prelude.{◌≡◌, refl, Bool, false, cond, ◌&&◌, ℕ, pos, negsuc, Float}
+use Rattle.std.specs.Prelude.{◌≡◌, refl, Bool, false, cond, ◌&&◌, ℕ, negsuc, Float}
 use Rattle.std.specs.Float.{fin, binary64}
 use Rattle.std.specs.Float.Ieee.{add, lt, eq}
 use Rattle.float.specs.Value.{zero64, one64}
