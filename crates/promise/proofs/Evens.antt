@@ -61,38 +61,34 @@ use Rattle.promise.specs.Demands.{
 
 -- ---- words and points
 pub of_word : (w n : ℕ) (d : Decoded) (e : Encoded) → n ≡ word_number w → d ≡ even_decoded w → e ≡ even_encoded d.point
-    → ChecksWord w n × (DecodesEven w d × BackToEven w e)
+    → record { checks_word : ChecksWord w n; decodes_even : DecodesEven w d; back_to_even : BackToEven w e }
 unfolding tab
-of_word w n d e p q r = (
-  (λ z. p ∙ (number_zero w).1 z, λ o. p ∙ (number-odd w).1 o),
-  (
-    (
-      λ z. (q ∙ even_decoded_lem w ((number_zero w).1 z), (even_word w).0 ((number_zero w).1 z)),
-      λ o. q ∙ odd-decoded w ((number-odd w).1 o),
-    ),
-    λ z.
-        let h : word_number w ≡ 0 = (number_zero w).1 z in
-        r ∙ ap (λ (a : Decoded). even_encoded a.point) (q ∙ even_decoded_lem w h) ∙ even-round_trip w h,
-  ),
-)
+of_word w n d e p q r = record {
+  checks_word = (λ z. p ∙ (number_zero w).1 z, λ o. p ∙ (number-odd w).1 o);
+  decodes_even = (
+    λ z. (q ∙ even_decoded_lem w ((number_zero w).1 z), (even_word w).0 ((number_zero w).1 z)),
+    λ o. q ∙ odd-decoded w ((number-odd w).1 o),
+  );
+  back_to_even = λ z.
+      let h : word_number w ≡ 0 = (number_zero w).1 z in
+      r ∙ ap (λ (a : Decoded). even_encoded a.point) (q ∙ even_decoded_lem w h) ∙ even-round_trip w h;
+}
 
 pub of_point : (y : List ℤ) (e f : Encoded) (d : Decoded) → length y ≡ 24 → e ≡ even_encoded y → f ≡ encode_of y → d ≡ even_decoded e.word
-    → AcceptsEven y e × (RefusesOdd y e f × KeepsEvenPoint y e d)
-of_point y e f d l p q r = (
-  (λ h. has (sym n ∙ h), λ h. n ∙ (even-members y l).1 h),
-  (
-    ((λ h. (even-refuses y l).0 (sym n ∙ h), λ o. n ∙ (even-refuses y l).1 o), λ o. p ∙ odd_refused y l o, λ k. p ∙ others_as_full y l k ∙ sym q),
-    λ h.
-        let m = has (sym n ∙ h) in
-        let a = even-accepts y m.0 m.1 in
-        let v : e.word ≡ (even_encoded y).word = ap (λ (a : Encoded). a.word) p in
-        let b : point_of e.word ≡ y = ap point_of v ∙ a.back in
-        let k : word_number e.word ≡ 0 = (even_word e.word).1 (subst Even (sym b) m.1) in (
-          subst (λ (x : ℕ). x < 2 ^ 47) (sym v) a.small,
-          r ∙ even_decoded_lem e.word k ∙ ap {B = Decoded} (λ (x : List ℤ). record { number = 0; point = x }) b,
-        ),
-  ),
-)
+    → record { accepts_even : AcceptsEven y e; refuses_odd : RefusesOdd y e f; keeps_even_point : KeepsEvenPoint y e d }
+of_point y e f d l p q r = record {
+  accepts_even = (λ h. has (sym n ∙ h), λ h. n ∙ (even-members y l).1 h);
+  refuses_odd = ((λ h. (even-refuses y l).0 (sym n ∙ h), λ o. n ∙ (even-refuses y l).1 o), λ o. p ∙ odd_refused y l o, λ k. p ∙ others_as_full y l k ∙ sym q);
+  keeps_even_point = λ h.
+      let m = has (sym n ∙ h) in
+      let a = even-accepts y m.0 m.1 in
+      let v : e.word ≡ (even_encoded y).word = ap (λ (a : Encoded). a.word) p in
+      let b : point_of e.word ≡ y = ap point_of v ∙ a.back in
+      let k : word_number e.word ≡ 0 = (even_word e.word).1 (subst Even (sym b) m.1) in (
+        subst (λ (x : ℕ). x < 2 ^ 47) (sym v) a.small,
+        r ∙ even_decoded_lem e.word k ∙ ap {B = Decoded} (λ (x : List ℤ). record { number = 0; point = x }) b,
+      );
+}
   where
     n : e.number ≡ (even_encoded y).number
     n = ap (λ (a : Encoded). a.number) p
@@ -115,27 +111,37 @@ keeps-code c g q d e p r k h =
 module _ (x : List Float) (l : length x ≡ 24) (f : AllFit x) where
   module _ (c : Code) (d : Decoded) (e : Encoded) (p : d ≡ even_decoded c.word) (r : e ≡ even_encoded c.point) where
     pub of_scale : (s : Float) (n : ℕ) → T (fits binary64 s) → c ≡ encode_at_over even_parities x s n
-        → Numbered (number_at x s n) c × ((c ≡ encode_at_over even_parities x s n) × (KeepsEvenCode c d e × ReturnsNearestEven x s c))
+        → record {
+          numbered : Numbered (number_at x s n) c;
+          code_value : c ≡ encode_at_over even_parities x s n;
+          keeps_even_code : KeepsEvenCode c d e;
+          returns_nearest_even : ReturnsNearestEven x s c;
+        }
     of_scale s n fs q =
         let g = encode_at_over even_parities x s n in
         let m : g.number ≡ number_at x s n = at-number _ x s n in
-        let k = numbered c g q (number_at x s n) m (at-refused _ x s n) in (
-          k,
-          (
-            q,
-            (
-              keeps-code c g q d e p r (λ h. even_at_scale_lem x s n l f fs (sym m ∙ h)),
-              λ h z W E N. ap (λ (a : Code). a.point) q ∙ (nearest-even_at_scale x s n l f fs (sym k.0 ∙ h) z E W N).point,
-            ),
-          ),
-        )
+        let k = numbered c g q (number_at x s n) m (at-refused _ x s n) in
+        record {
+          numbered = k;
+          code_value = q;
+          keeps_even_code = keeps-code c g q d e p r (λ h. even_at_scale_lem x s n l f fs (sym m ∙ h));
+          returns_nearest_even = λ h z W E N. ap (λ (a : Code). a.point) q ∙ (nearest-even_at_scale x s n l f fs (sym k.0 ∙ h) z E W N).point;
+        }
 
     pub of_samples_lem : (n : ℕ) → c ≡ encode_over even_parities x n
-        → Numbered (number_of x n) c × ((c ≡ encode_over even_parities x n) × KeepsEvenCode c d e)
+        → record {
+          numbered : Numbered (number_of x n) c;
+          code_value : c ≡ encode_over even_parities x n;
+          keeps_even_code : KeepsEvenCode c d e;
+        }
     of_samples_lem n q =
         let g = encode_over even_parities x n in
         let m : g.number ≡ number_of x n = number_is _ x n in
-        (numbered c g q (number_of x n) m (is_refused _ x n), (q, keeps-code c g q d e p r (λ h. even-samples x n l f (sym m ∙ h))))
+        record {
+          numbered = numbered c g q (number_of x n) m (is_refused _ x n);
+          code_value = q;
+          keeps_even_code = keeps-code c g q d e p r (λ h. even-samples x n l f (sym m ∙ h));
+        }
 
   pub of_both : (s : Float) (n : ℕ) (c g : Code) → T (fits binary64 s) → c ≡ encode_at_over even_parities x s n → g ≡ encode_at_scale x s n
       → AgreesWhereEven c g
@@ -144,17 +150,17 @@ module _ (x : List Float) (l : length x ≡ 24) (f : AllFit x) where
 -- ---- pages
 pub of_page : (text : List ℕ) (old new : List ℤ) (r : PageRead) → r ≡ even_read (reading_of text) (length old)
     → new ≡ even_cells (reading_of text) old
-    → ReadsEvenPages text old new r × RefusesToReadEven text old new r
-of_page text old new r q d = (
-  λ num words p h k.
+    → record { reads_even_pages : ReadsEvenPages text old new r; refuses_to_read_even : RefusesToReadEven text old new r }
+of_page text old new r q d = record {
+  reads_even_pages = λ num words p h k.
       let a = even_on-page text old num words p (λ i l. (number_zero (get_or words i 0)).1 (h i l)) in
       let b = on_page text old num words p k in
-      (q ∙ a.0 ∙ b.0, d ∙ a.1 ∙ b.1),
-  record {
-    no_page_lem = λ h. let a = even_on-no_page text old h in (q ∙ a.0, d ∙ a.1);
+      (q ∙ a.0 ∙ b.0, d ∙ a.1 ∙ b.1);
+  refuses_to_read_even = record {
+    no_page = λ h. let a = even_on-no_page text old h in (q ∙ a.0, d ∙ a.1);
     odd_word = λ num words p i l o.
         let a = even-odd_word text old num words p (i, l, (number-odd (get_or words i 0)).1 o) in (q ∙ a.0, d ∙ a.1);
     short = λ num words p h k.
         let a = even_on_short_buffer text old num words p (λ i l. (number_zero (get_or words i 0)).1 (h i l)) k in (q ∙ a.0, d ∙ a.1);
-  },
-)
+  };
+}

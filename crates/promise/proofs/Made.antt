@@ -24,19 +24,21 @@ use Rattle.promise.specs.Demands.{FormsPages, FormsPage, RefusesToForm, WritesPa
 -- ---- `form`
 pub of_form : (num count : ℕ) (words old new : List ℕ) (r : Formed) → r ≡ formed_of num count words (length old)
     → new ≡ form_in num count words old
-    → FormsPages num count words old new r × (FormsPage num count words new r × RefusesToForm num count words old new r)
-of_form num count words old new r q d = (
-  λ g few room. let a = form.on_formed num count words old g.0 g.1 few room in (q ∙ a.0, d ∙ a.1),
-  (
-    λ z. subst₂ (λ (f : Formed) (t : List ℕ). Page (take f.length t) num (map (λ (w : ℕ). w % 2 ^ 48) (take count words))) (sym q) (sym d)
-        (only_pages _ num _ (form.form_then-parse num count words old (sym (ap (λ (f : Formed). f.number) q) ∙ z))),
-    record {
-      bad_num = λ h. let a = form.on_bad_num num count words old (λ l m. h (l, m)) in (q ∙ a.0, d ∙ a.1);
-      many_words = λ g h. let a = form.on_many_words num count words old g.0 g.1 h in (q ∙ a.0, d ∙ a.1);
-      short_text = λ g few h. let a = form.on_short_text num count words old g.0 g.1 few h in (q ∙ a.0, d ∙ a.1);
-    },
-  ),
-)
+    → record {
+      forms_pages : FormsPages num count words old new r;
+      forms_page : FormsPage num count words new r;
+      refuses_to_form : RefusesToForm num count words old new r;
+    }
+of_form num count words old new r q d = record {
+  forms_pages = λ g few room. let a = form.on_formed num count words old g.0 g.1 few room in (q ∙ a.0, d ∙ a.1);
+  forms_page = λ z. subst₂ (λ (f : Formed) (t : List ℕ). Page (take f.length t) num (map (λ (w : ℕ). w % 2 ^ 48) (take count words))) (sym q) (sym d)
+      (only_pages _ num _ (form.form_then-parse num count words old (sym (ap (λ (f : Formed). f.number) q) ∙ z)));
+  refuses_to_form = record {
+    bad_num = λ h. let a = form.on_bad_num num count words old (λ l m. h (l, m)) in (q ∙ a.0, d ∙ a.1);
+    many_words = λ g h. let a = form.on_many_words num count words old g.0 g.1 h in (q ∙ a.0, d ∙ a.1);
+    short_text = λ g few h. let a = form.on_short_text num count words old g.0 g.1 few h in (q ∙ a.0, d ∙ a.1);
+  };
+}
 
 -- ---- `write`
 module _ (num count : ℕ) (x : List ℤ) (old new : List ℕ) (r : Written) (q : r ≡ written_of num count x (length old))
@@ -72,29 +74,28 @@ module _ (num count : ℕ) (x : List ℤ) (old new : List ℕ) (r : Written) (q 
       both : {w : Written} {t : List ℕ} → Gives num count x old w t → (r ≡ w) × (new ≡ t)
       both a = (q ∙ a.0, d ∙ a.1)
 
-  pub of_write : WritesPage num count x old new r
-      × (CodesBlocks num count x r × (WritesNearest num count x r × (RefusesToWrite num count x old new r × WritesOthers num count x old r)))
-  of_write = (
-    page-made,
-    (
-      λ z i h. block-coded num count x old (zero_is z) i h,
-      (
-        λ z i h y W N. (block-nearest num count x old (zero_is z) i h y W N).point,
-        (
-          refuses,
-          λ g few enough narrow near h.
-              ap (λ (w : Written). w.number) (q ∙ (writer.on_written num count x old g.0 g.1 few enough narrow near h).0),
-        ),
-      ),
-    ),
-  )
+  pub of_write : record {
+    writes_page : WritesPage num count x old new r;
+    codes_blocks : CodesBlocks num count x r;
+    writes_nearest : WritesNearest num count x r;
+    refuses_to_write : RefusesToWrite num count x old new r;
+    writes_others : WritesOthers num count x old r;
+  }
+  of_write = record {
+    writes_page = page-made;
+    codes_blocks = λ z i h. block-coded num count x old (zero_is z) i h;
+    writes_nearest = λ z i h y W N. (block-nearest num count x old (zero_is z) i h y W N).point;
+    refuses_to_write = refuses;
+    writes_others = λ g few enough narrow near h.
+        ap (λ (w : Written). w.number) (q ∙ (writer.on_written num count x old g.0 g.1 few enough narrow near h).0);
+  }
 
 -- ---- `mkpage`
-pub of_mkpage : (text : List ℕ) (r : Made) → r ≡ in_array (made (trace_in text)) → MakesPages text r × MakesNoOther text r
+pub of_mkpage : (text : List ℕ) (r : Made) → r ≡ in_array (made (trace_in text)) → record { makes_pages : MakesPages text r; makes_no_other : MakesNoOther text r }
 unfolding page_or_refusal text_of refused_lines names_block
-of_mkpage text r q = (
-  λ num count x p.
+of_mkpage text r q = record {
+  makes_pages = λ num count x p.
       let e = q ∙ ap in_array (on_trace text num count x p) in
-      (λ z. e ∙ rw (eq-eqb _ 0 z), λ z. e ∙ rw (ne_eqb _ 0 z)),
-  λ h. q ∙ ap in_array (on_no_trace text h ∙ append-nil (refused_text 9)),
-)
+      (λ z. e ∙ rw (eq-eqb _ 0 z), λ z. e ∙ rw (ne_eqb _ 0 z));
+  makes_no_other = λ h. q ∙ ap in_array (on_no_trace text h ∙ append-nil (refused_text 9));
+}

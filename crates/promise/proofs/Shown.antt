@@ -3,7 +3,7 @@
 use mathlib.Core.Path.{◌≡◌, refl, sym, ap, subst, ◌∙◌}
 use mathlib.Core.Bool.{Bool, true, false, cond, true≢false}
 use mathlib.Core.Logic.{◌≢◌, ◌⊎◌, inl, inr}
-use mathlib.Core.List.{List, [], ◌∷◌}
+use mathlib.Core.List.{List}
 use Prim.Native.Nat.{ℕ, zero, suc, ◌+◌, ◌*◌, ◌^◌, ◌<◌, ◌≤◌}
 use native.Mathlib.Omega.{arith}
 use borrow.Author.Tests.{eq-eqb, ne_eqb}
@@ -12,10 +12,6 @@ use lib.IntN.{ℤ, pos, ◌*ℤ◌}
 use lib.ListN.{length, get_or, drop, get_or-append}
 use lib.Ieee.{Float, nan, inf, fin, binary64, fits, eq}
 use lib.Ieee.Scale.{finite}
-use mir.Val.{Val}
-use denote.Shadow.{shadow}
-use denote.Array.{each}
-use denote.Floats.{FloatOf}
 use Rattle.laws.specs.Laws.Order.{le-or-lt}
 use Rattle.tetra.specs.Lattice.{HasWord}
 use Rattle.tetra.specs.Tetra.{point_of}
@@ -79,30 +75,32 @@ use Rattle.promise.specs.Demands.{
   PrintsRefusal,
 }
 
--- ---- an array of doubles holds doubles
-pub each_fits : (xs : List Float) (us : List Val) (k : ℕ) → shadow (each Float (FloatOf binary64).own xs us)
-    → T (fits binary64 (get_or xs k nan))
-unfolding fits
-each_fits [] us k p = tt
-each_fits (x ∷ xs) [] k p = absurd p
-each_fits (x ∷ xs) (u ∷ us) zero p = subst T (sym p.0.1) tt
-each_fits (x ∷ xs) (u ∷ us) (suc k) p = each_fits xs us k p.1
-
 -- ---- words and points
 pub of_word : (w : ℕ) (y : List ℤ) (e : Encoded) → y ≡ point_of w → e ≡ encode_of y
-    → PointOfWord w y × BackToWord w e
-of_word w y e p q = ((p, subst HasWord (sym p) (decodes w)), q ∙ ap encode_of p ∙ round_trip w)
+    → record { point_of_word : PointOfWord w y; back_to_word : BackToWord w e }
+of_word w y e p q = record {
+  point_of_word = (p, subst HasWord (sym p) (decodes w));
+  back_to_word = q ∙ ap encode_of p ∙ round_trip w;
+}
 
 pub of_point : (y : List ℤ) (e : Encoded) (z : List ℤ) → length y ≡ 24 → e ≡ encode_of y
-    → z ≡ point_of e.word → RefusesOthers y e
-    × (AcceptsMembers y e × (KeepsPoint y e z × (RefusesByFour e × SaysWhy y e)))
-of_point y e z l q d = (
-  (
+    → z ≡ point_of e.word → record {
+      refuses_others : RefusesOthers y e;
+      accepts_members : AcceptsMembers y e;
+      keeps_point : KeepsPoint y e z;
+      refuses_by_four : RefusesByFour e;
+      says_why : SaysWhy y e;
+    }
+of_point y e z l q d = record {
+  refuses_others = (
     λ h w b p. (refused_iff y l).0 (subst Refused n h) (subst HasWord p (decodes w)),
     λ k. (by_four (λ h. k e.word (omega (arith, (keeps h).0)) (sym d ∙ (keeps h).1))).0,
-  ),
-  ((has, λ h. n ∙ (accepts y h).number), (keeps, (by_four, says))),
-)
+  );
+  accepts_members = (has, λ h. n ∙ (accepts y h).number);
+  keeps_point = keeps;
+  refuses_by_four = by_four;
+  says_why = says;
+}
   where
     n : e.number ≡ (encode_of y).number
     n = ap (λ (a : Encoded). a.number) q
@@ -142,28 +140,36 @@ module _ (c d : Code) (q : c ≡ d) where
 module _ (x : List Float) (l : length x ≡ 24) (f : AllFit x) (c : Code) (y : List ℤ) (e : Encoded)
     (p : y ≡ point_of c.word) (r : e ≡ encode_of c.point) where
   pub of_scale : (s : Float) (n : ℕ) → T (fits binary64 s) → c ≡ encode_at_scale x s n
-      → Numbered (number_at x s n) c × ((c ≡ encode_at_scale x s n) × (KeepsCode c y e × ReturnsNearest x s c))
+      → record {
+        numbered : Numbered (number_at x s n) c;
+        code_value : c ≡ encode_at_scale x s n;
+        keeps_code : KeepsCode c y e;
+        returns_nearest : ReturnsNearest x s c;
+      }
   of_scale s n d q =
       let m : (encode_at_scale x s n).number ≡ number_at x s n = at-number _ x s n in
-      let k = numbered c (encode_at_scale x s n) q (number_at x s n) m (at-refused _ x s n) in (
-        k,
-        (
-          q,
-          (
-            keeps-code c (encode_at_scale x s n) q y e p r (λ h. at_scale_lem x s n l f d (sym m ∙ h)),
-            λ h z W N.
-                ap (λ (a : Code). a.point) q ∙ (nearest-at_scale x s n l f d (sym k.0 ∙ h) z W N).point,
-          ),
-        ),
-      )
+      let k = numbered c (encode_at_scale x s n) q (number_at x s n) m (at-refused _ x s n) in
+      record {
+        numbered = k;
+        code_value = q;
+        keeps_code = keeps-code c (encode_at_scale x s n) q y e p r (λ h. at_scale_lem x s n l f d (sym m ∙ h));
+        returns_nearest = λ h z W N.
+            ap (λ (a : Code). a.point) q ∙ (nearest-at_scale x s n l f d (sym k.0 ∙ h) z W N).point;
+      }
 
   pub of_samples_lem : (n : ℕ) → c ≡ encode_with x n
-      → Numbered (number_of x n) c × ((c ≡ encode_with x n) × KeepsCode c y e)
+      → record {
+        numbered : Numbered (number_of x n) c;
+        code_value : c ≡ encode_with x n;
+        keeps_code : KeepsCode c y e;
+      }
   of_samples_lem n q =
-      let m : (encode_with x n).number ≡ number_of x n = number_is _ x n in (
-        numbered c (encode_with x n) q (number_of x n) m (is_refused _ x n),
-        (q, keeps-code c (encode_with x n) q y e p r (λ h. samples x n l f (sym m ∙ h))),
-      )
+      let m : (encode_with x n).number ≡ number_of x n = number_is _ x n in
+      record {
+        numbered = numbered c (encode_with x n) q (number_of x n) m (is_refused _ x n);
+        code_value = q;
+        keeps_code = keeps-code c (encode_with x n) q y e p r (λ h. samples x n l f (sym m ∙ h));
+      }
 
 -- ---- what samples give besides
 pub of_score : (x : List Float) (y : List ℤ) (r : Scored) → r ≡ scored x y
@@ -221,14 +227,15 @@ has-root (fin true (suc m) e) i t = absurd (true≢false t)
 has-root (fin false (suc m) e) i t = refl
 
 pub of_root : (x : Float) (r : Rooted) → T (fits binary64 x) → r ≡ rooted x
-    → RootIsNearest x r × (RootOfZero x r × RootRefused x r)
-of_root x r f q = (
-  λ i s p. (
+    → record { root_is_nearest : RootIsNearest x r; root_of_zero : RootOfZero x r; root_refused : RootRefused x r }
+of_root x r f q = record {
+  root_is_nearest = λ i s p. (
     ap (λ (a : Rooted). a.number) q ∙ has-root x i s,
     subst (λ (a : Rooted). NearestRoot x a.root) (sym q) (rooted-nearest x f i s p),
-  ),
-  (λ i h. q ∙ zero_root x i h, (λ h. q ∙ unbounded-root x h, λ i s p. q ∙ no_root_lem x i s p)),
-)
+  );
+  root_of_zero = λ i h. q ∙ zero_root x i h;
+  root_refused = (λ h. q ∙ unbounded-root x h, λ i s p. q ∙ no_root_lem x i s p);
+}
 
 -- ---- pages
 -- what is no page reads as malformed
@@ -236,18 +243,20 @@ no_page_lem : (text : List ℕ) → NoPage text → reading_of text ≡ malforme
 no_page_lem text h = one_reading text (reading_of text) malformed (reads text) h
 
 pub of_parse : (text : List ℕ) (r : Parsed) → r ≡ parsed_of (reading_of text)
-    → ParsesPages text r × ParsesNoOther text r
+    → record { parses_pages : ParsesPages text r; parses_no_other : ParsesNoOther text r }
 unfolding parsed_of
-of_parse text r q =
-    (λ num words p. q ∙ ap parsed_of (accepted text num words p), λ h. q ∙ ap parsed_of (no_page_lem text h))
+of_parse text r q = record {
+  parses_pages = λ num words p. q ∙ ap parsed_of (accepted text num words p);
+  parses_no_other = λ h. q ∙ ap parsed_of (no_page_lem text h);
+}
 
 pub of_print : (text : List ℕ) (r : Printed) → r ≡ in_array (printed (reading_of text))
-    → PrintsPages text r × PrintsRefusal text r
+    → record { prints_pages : PrintsPages text r; prints_refusal : PrintsRefusal text r }
 unfolding printed number_in words_in counts_in
-of_print text r q = (
-  λ num words p. q ∙ ap (λ (a : Reading). in_array (printed a)) (accepted text num words p),
-  λ h. q ∙ ap (λ (a : Reading). in_array (printed a)) (no_page_lem text h),
-)
+of_print text r q = record {
+  prints_pages = λ num words p. q ∙ ap (λ (a : Reading). in_array (printed a)) (accepted text num words p);
+  prints_refusal = λ h. q ∙ ap (λ (a : Reading). in_array (printed a)) (no_page_lem text h);
+}
 
 -- what is accepted had room, so the counts stand at the buffer's start
 counts_round : (text : List ℕ) (old new : List ℤ) (r : PageRead) → r ≡ read_of (reading_of text) (length old)
@@ -266,22 +275,21 @@ counts_round text old new r q d z num words p i j h k = go (le-or-lt (24 * lengt
 
 pub of_page : (text : List ℕ) (old new : List ℤ) (r : PageRead) → r ≡ read_of (reading_of text) (length old)
     → new ≡ cells_of (reading_of text) old
-    → ReadsPages text old new r × (RoundsToEven text new r
-    × (RefusesNoPage text old new r × (RefusesShort text old new r × AcceptsPagesOnly text r)))
+    → record {
+      reads_pages : ReadsPages text old new r;
+      rounds_to_even : RoundsToEven text new r;
+      refuses_no_page : RefusesNoPage text old new r;
+      refuses_short : RefusesShort text old new r;
+      accepts_pages_only : AcceptsPagesOnly text r;
+    }
 unfolding read_of number_in
-of_page text old new r q d = (
-  λ num words p h. let a = on_page text old num words p h in (q ∙ a.0, d ∙ a.1),
-  (
-    counts_round text old new r q d,
-    (
-      λ h. let a = on_no_page text old h in (q ∙ a.0, d ∙ a.1),
-      (
-        λ num words p h. let a = on_short_buffer text old num words p h in (q ∙ a.0, d ∙ a.1),
-        λ h. go (reading_of text) refl (λ z. h (ap (λ (a : PageRead). a.number) q ∙ z)),
-      ),
-    ),
-  ),
-)
+of_page text old new r q d = record {
+  reads_pages = λ num words p h. let a = on_page text old num words p h in (q ∙ a.0, d ∙ a.1);
+  rounds_to_even = counts_round text old new r q d;
+  refuses_no_page = λ h. let a = on_no_page text old h in (q ∙ a.0, d ∙ a.1);
+  refuses_short = λ num words p h. let a = on_short_buffer text old num words p h in (q ∙ a.0, d ∙ a.1);
+  accepts_pages_only = λ h. go (reading_of text) refl (λ z. h (ap (λ (a : PageRead). a.number) q ∙ z));
+}
   where
     go : (R : Reading) → reading_of text ≡ R → (read_of R (length old)).number ≢ 9
         → (num : ℕ) × (words : List ℕ) × Page text num words

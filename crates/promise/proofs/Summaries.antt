@@ -8,7 +8,7 @@ use lib.IntN.{ℤ}
 use lib.ListN.{length, get_or, take, drop}
 use Rattle.laws.specs.Laws.Order.{le-or-lt}
 use Rattle.tetra.specs.Tetra.{point_of}
-use Rattle.page.specs.Page.{Page, page_text}
+use Rattle.page.specs.Page.{page_text}
 use Rattle.page.specs.Reader.{reading_of}
 use Rattle.summary.specs.declared.Summed.{Summed}
 use Rattle.summary.specs.Summary.{points, odds, cells_for}
@@ -39,17 +39,19 @@ module _ (text : List ℕ) (old new : List ℤ) (r : Summed) where
             let e : ◌≡◌ {A = ℕ} 8 0 = sym (ap (λ (x : Summed). x.number) (q ∙ (summarise_on_short text old num words p l).0)) ∙ z in
             absurd (omega arith)
 
-    pub of_summarise : SummarisesPages text old new r × (RowsSay text new r × RefusesToSummarise text old new r)
-    of_summarise = (
-      λ num words p h. let a = summarise_on-page text old num words p h in (q ∙ a.0, d ∙ a.1),
-      (
-        rows_say,
-        record {
-          no_page_lem = λ h. let a = summarise_on-no_page text old h in (q ∙ a.0, d ∙ a.1);
-          short = λ num words p h. let a = summarise_on_short text old num words p h in (q ∙ a.0, d ∙ a.1);
-        },
-      ),
-    )
+    pub of_summarise : record {
+      summarises_pages : SummarisesPages text old new r;
+      rows_say : RowsSay text new r;
+      refuses_to_summarise : RefusesToSummarise text old new r;
+    }
+    of_summarise = record {
+      summarises_pages = λ num words p h. let a = summarise_on-page text old num words p h in (q ∙ a.0, d ∙ a.1);
+      rows_say = rows_say;
+      refuses_to_summarise = record {
+        no_page = λ h. let a = summarise_on-no_page text old h in (q ∙ a.0, d ∙ a.1);
+        short = λ num words p h. let a = summarise_on_short text old num words p h in (q ∙ a.0, d ∙ a.1);
+      };
+    }
 
   -- ---- `add`
   module _ (w : ℕ) (q : r ≡ added (reading_of text) old) (d : new ≡ added_rows (reading_of text) w old) where
@@ -79,28 +81,30 @@ module _ (text : List ℕ) (old new : List ℤ) (r : Summed) where
         few (inl l) = refused 9 (omega arith) (add_full text old num words p w l).0
         few (inr l) = room l (le-or-lt (cells_for (length words + 1)) (length old))
 
-    pub of-add : AddsWord text w old new r × (KeepsSummary text w old new r × RefusesToAdd text old new r)
-    of-add = (
-      λ num words p f h e. let a = add_on-page text old num words p w f h e in (q ∙ a.0, d ∙ a.1),
-      (
-        keeps,
-        record {
-          no_page_lem = λ h. let a = add_on-no_page text old h w in (q ∙ a.0, d ∙ a.1);
-          full = λ num words p h. let a = add_full text old num words p w h in (q ∙ a.0, d ∙ a.1);
-          short = λ num words p f h. let a = add_short text old num words p w f h in (q ∙ a.0, d ∙ a.1);
-          other = λ num words p f h e. let a = add-disagrees text old num words p w f h e in (q ∙ a.0, d ∙ a.1);
-        },
-      ),
-    )
+    pub of-add : record {
+      adds_word : AddsWord text w old new r;
+      keeps_summary : KeepsSummary text w old new r;
+      refuses_to_add : RefusesToAdd text old new r;
+    }
+    of-add = record {
+      adds_word = λ num words p f h e. let a = add_on-page text old num words p w f h e in (q ∙ a.0, d ∙ a.1);
+      keeps_summary = keeps;
+      refuses_to_add = record {
+        no_page = λ h. let a = add_on-no_page text old h w in (q ∙ a.0, d ∙ a.1);
+        full = λ num words p h. let a = add_full text old num words p w h in (q ∙ a.0, d ∙ a.1);
+        short = λ num words p f h. let a = add_short text old num words p w f h in (q ∙ a.0, d ∙ a.1);
+        other = λ num words p f h e. let a = add-disagrees text old num words p w f h e in (q ∙ a.0, d ∙ a.1);
+      };
+    }
 
 -- ---- `check`
 pub of_check : (text : List ℕ) (rows : List ℤ) (n : ℕ) → n ≡ checked (reading_of text) rows
-    → ChecksSummary text rows n × RefusesToCheck text rows n
-of_check text rows n q = (
-  (λ z. (check_iff text rows).0 (sym q ∙ z), λ k. q ∙ (check_iff text rows).1 k),
-  record {
-    no_page_lem = λ h. q ∙ check_on-no_page text rows h;
+    → record { checks_summary : ChecksSummary text rows n; refuses_to_check : RefusesToCheck text rows n }
+of_check text rows n q = record {
+  checks_summary = (λ z. (check_iff text rows).0 (sym q ∙ z), λ k. q ∙ (check_iff text rows).1 k);
+  refuses_to_check = record {
+    no_page = λ h. q ∙ check_on-no_page text rows h;
     short = λ num words p h. q ∙ check_on_short text rows num words p h;
     other = λ num words p h e. q ∙ check_on-other text rows num words p h e;
-  },
-)
+  };
+}

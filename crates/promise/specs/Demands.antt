@@ -344,7 +344,7 @@ RowsSay text new r = r.number ≡ 0 → (num : ℕ) (words : List ℕ) → Page 
 -- (demand 1) It refuses with 9 a text that is no page, then with 8 rows that are too short; count 0, and the rows
 -- are untouched.
 pub record RefusesToSummarise (text : List ℕ) (old new : List ℤ) (r : Summed) : Type 0 where
-  pub no_page_lem : NoPage text → (r ≡ record { number = 9; count = 0 }) × (new ≡ old)
+  pub no_page : NoPage text → (r ≡ record { number = 9; count = 0 }) × (new ≡ old)
   pub short : (num : ℕ) (words : List ℕ) → Page text num words → length old < cells_for (length words)
       → (r ≡ record { number = 8; count = 0 }) × (new ≡ old)
 
@@ -354,7 +354,7 @@ ChecksSummary text rows n = (n ≡ 0) ↔ Kept text rows
 
 -- (demand 1) else 9 where it is no page, then 8 where the rows are too short, then 14.
 pub record RefusesToCheck (text : List ℕ) (rows : List ℤ) (n : ℕ) : Type 0 where
-  pub no_page_lem : NoPage text → n ≡ 9
+  pub no_page : NoPage text → n ≡ 9
   pub short : (num : ℕ) (words : List ℕ) → Page text num words → length rows < cells_for (length words) → n ≡ 8
   pub other : (num : ℕ) (words : List ℕ) → Page text num words → cells_for (length words) ≤ length rows
       → (Agrees words rows → ⊥) → n ≡ 14
@@ -377,7 +377,7 @@ KeepsSummary text w old new r = r.number ≡ 0 → (num : ℕ) (words : List ℕ
 -- (demand 1) It refuses with 9 a text that is no page or has 64 blocks, then with 8 rows that are too short for the
 -- longer summary, then with 14 rows that are not the summary of the page; count 0, and the rows are untouched.
 pub record RefusesToAdd (text : List ℕ) (old new : List ℤ) (r : Summed) : Type 0 where
-  pub no_page_lem : NoPage text → (r ≡ record { number = 9; count = 0 }) × (new ≡ old)
+  pub no_page : NoPage text → (r ≡ record { number = 9; count = 0 }) × (new ≡ old)
   pub full : (num : ℕ) (words : List ℕ) → Page text num words → 64 ≤ length words
       → (r ≡ record { number = 9; count = 0 }) × (new ≡ old)
   pub short : (num : ℕ) (words : List ℕ) → Page text num words → length words < 64
@@ -455,7 +455,7 @@ ReadsEvenPages text old new r = (num : ℕ) (words : List ℕ) → Page text num
 -- (demand 1) and no other text is. It is refused with 9 where it is no page, then with 13 where a word has p = 1,
 -- then with 8 for a buffer that is too short; count 0, and the buffer is untouched.
 pub record RefusesToReadEven (text : List ℕ) (old new : List ℤ) (r : PageRead) : Type 0 where
-  pub no_page_lem : NoPage text → (r ≡ record { number = 9; count = 0 }) × (new ≡ old)
+  pub no_page : NoPage text → (r ≡ record { number = 9; count = 0 }) × (new ≡ old)
   pub odd_word : (num : ℕ) (words : List ℕ) → Page text num words → (i : ℕ) → i < length words
       → get_or words i 0 % 2 ≡ 1 → (r ≡ record { number = 13; count = 0 }) × (new ≡ old)
   pub short : (num : ℕ) (words : List ℕ) → Page text num words

@@ -1,0 +1,8 @@
+-- `promise::from_point` meets its contract. Assumes nothing.
+use borrow.Author.Rules.{rules}
+use Rattle.promise.proofs.Shown.{of_point}
+use Rattle.promise.proofs.from_point.Goals as goal
+
+pub returns : goal.returns
+returns c =
+    of_point c.args.point _ _ (search rules) c.encode-coded.ensures c.decode-back.ensures
