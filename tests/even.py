@@ -5,7 +5,7 @@
     tests/even.py --help                    prints this
 
 From the environment:
-    ASK   the program; target/bin/ask, run by tools/run.sh, where it is not set (`rt check ask` builds it)
+    ASK   the program; crates/ask/out/ask, run by tools/run.sh, where it is not set (`bash tools/native.sh ask` builds it)
     RUN   the command that runs the program, as an emulator and a loader with its options, where it needs one
 
 What a word's point is, tests/format_decoder.py says, and why a point has no word, tests/points_reading.py; both are written from docs/FORMAT.md
@@ -212,7 +212,7 @@ def main(arguments):
     if len(arguments) > 3 or not all(a.isascii() and a.isdigit() for a in arguments) or any(int(a) == 0 for a in arguments[:2]):
         print(__doc__.strip(), file=sys.stderr)
         return 2
-    program = os.environ.get("ASK", os.path.join(points.ROOT, "target", "bin", "ask"))
+    program = os.environ.get("ASK", os.path.join(points.ROOT, "crates", "ask", "out", "ask"))
     if not os.path.exists(program):
         print(f"even: there is no program {program}", file=sys.stderr)
         return 2

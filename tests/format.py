@@ -6,8 +6,8 @@
     format.py --oracle ORACLE    also ORACLE, a program over the Rust that answers the same request lines as ask
 
 From the environment:
-    ASK      the program ask; target/bin/ask, run by tools/run.sh, where it is not set (`rt check ask` builds it)
-    UNPAGE   the program unpage; target/bin/unpage, likewise (`rt check unpage` builds it)
+    ASK      the program ask; crates/ask/out/ask, run by tools/run.sh, where it is not set (`bash tools/native.sh ask` builds it)
+    UNPAGE   the program unpage; crates/unpage/out/unpage, likewise (`bash tools/native.sh unpage` builds it)
     RUN      the command that runs a program, as an emulator and a loader with its options, where it needs one
 
 Asked are 10,000 words, their 10,000 points, 10,000 damaged points, 2,200 blocks of samples (their numbers, lower scales and scores, and that
@@ -26,8 +26,8 @@ sys.dont_write_bytecode = True  # a run leaves nothing beside the tests
 import format_decoder as own  # noqa: E402
 
 ROOT = os.path.dirname(os.path.dirname(os.path.abspath(__file__)))
-ASK = os.environ.get("ASK", os.path.join(ROOT, "target", "bin", "ask"))
-UNPAGE = os.environ.get("UNPAGE", os.path.join(ROOT, "target", "bin", "unpage"))
+ASK = os.environ.get("ASK", os.path.join(ROOT, "crates", "ask", "out", "ask"))
+UNPAGE = os.environ.get("UNPAGE", os.path.join(ROOT, "crates", "unpage", "out", "unpage"))
 failed = []
 
 

@@ -9,7 +9,7 @@
     tests/pages.py --help           prints this
 
 From the environment:
-    UNPAGE  the program; target/bin/unpage, run by tools/run.sh, where it is not set
+    UNPAGE  the program; crates/unpage/out/unpage, run by tools/run.sh, where it is not set
     RUN     the command that runs the program, as an emulator and a loader with its options, where it needs one
     YULTARVAS_LIB  for --sweep: a folder with a libyultarvas.a for this machine; target/native where it is not set
 
@@ -290,9 +290,9 @@ def ask(oracle, texts):
 
 def program():
     """The command that runs unpage."""
-    built = os.environ.get("UNPAGE", os.path.join(ROOT, "target", "bin", "unpage"))
+    built = os.environ.get("UNPAGE", os.path.join(ROOT, "crates", "unpage", "out", "unpage"))
     if not os.access(built, os.X_OK):
-        wrong(f"there is no program {built}: rt check unpage builds target/bin/unpage, or UNPAGE names another")
+        wrong(f"there is no program {built}: bash tools/native.sh unpage builds crates/unpage/out/unpage, or UNPAGE names another")
     if "UNPAGE" in os.environ:
         return os.environ.get("RUN", "").split() + [built]
     return ["bash", os.path.join(ROOT, "tools", "run.sh"), "unpage"]

@@ -5,7 +5,7 @@
     tests/points.py --help            prints this
 
 From the environment:
-    ASK   the program; target/bin/ask, run by tools/run.sh, where it is not set (`rt check ask` builds it)
+    ASK   the program; crates/ask/out/ask, run by tools/run.sh, where it is not set (`bash tools/native.sh ask` builds it)
     RUN   the command that runs the program, as an emulator and a loader with its options, where it needs one
 
 The points have one parity, a codeword of bits and three sections, each of which is taken from all over the list of rank vectors, or from the places
@@ -125,7 +125,7 @@ def main(arguments):
     if len(arguments) > 2 or not all(a.isascii() and a.isdigit() for a in arguments) or (arguments and int(arguments[0]) == 0):
         print(__doc__.strip(), file=sys.stderr)
         return 2
-    program = os.environ.get("ASK", os.path.join(ROOT, "target", "bin", "ask"))
+    program = os.environ.get("ASK", os.path.join(ROOT, "crates", "ask", "out", "ask"))
     if not os.path.exists(program):
         print(f"points: there is no program {program}", file=sys.stderr)
         return 2

@@ -9,33 +9,47 @@ help_if_asked "$@"
 no_arguments "$@"
 
 scratch
-mkdir -p "$work/bin" "$work/repo/target/bin" "$work/repo/edits/word"
-cp -r "$root/tools" "$root/tests" "$root/samples" "$work/repo/"
-(cd "$root" && cp --parents crates/*/stdin crates/*/stdout "$work/repo/")
+mkdir -p "$work/bin" "$work/repo/edits/word"
+cp -r "$root/tools" "$root/tests" "$root/samples" "$root/crates.txt" "$work/repo/"
+(cd "$root" && cp --parents crates/*/stdin crates/*/stdout crates/*/src/main.rt "$work/repo/")
+mkdir -p "$work/repo/crates/yultarvas/out"
+for name in unpage sizes mkpage ask; do mkdir "$work/repo/crates/$name/out"; done
+# As the toolchain does, it says what it proved on standard error where it also runs a program, whose answer stands alone.
 cat >"$work/bin/rt" <<'STAND_IN'
 #!/usr/bin/env bash
-echo "rt $*" >>"$CALLED"
-case ${RT_SAYS:-ok} in
-ok)
-    printf 'rt: laws proved (unchanged since it was last proved)\n'
-    printf 'fn word::get: proved\nrt: word proved (13 s)\nrt: ok, 2 crates proved\n'
-    ;;
-*) printf 'fn word::get: not proved\nrt: word NOT PROVED (exit 1, 3 s)\nrt: FAILED: word\n'; exit 1 ;;
+echo "rt $* in ${PWD##*/}" >>"$CALLED"
+said() {
+    case ${RT_SAYS:-ok} in
+    ok)
+        printf 'fn word::get: proved\ncrate word: modules loaded=164 checked=14\nlogic=proved functions=8\n'
+        printf 'fn shown::unpage: proved\ncrate shown: modules loaded=112 checked=0\nlogic=proved functions=4\n'
+        ;;
+    *)
+        printf 'fn word::get: not proved\ncrate word: modules loaded=164 checked=14\nlogic=not-proved\n'
+        printf 'rt: the library word did not build, so nothing above it was checked\n'
+        ;;
+    esac
+}
+case $1 in
+run) said >&2; echo answer=1 ;;
+lib) said; if [ "${RT_SAYS:-ok}" = ok ]; then touch out/libyultarvas.a; fi ;;
+*) exit 2 ;;
 esac
+[ "${RT_SAYS:-ok}" = ok ]
 STAND_IN
 # These answer the example page where the input is that page, and refuse any other; and read nothing where they are told to.
-cat >"$work/repo/target/bin/unpage" <<'STAND_IN'
+cat >"$work/repo/crates/unpage/out/unpage" <<'STAND_IN'
 #!/usr/bin/env bash
 if [ -n "${FAILS:-}" ]; then echo "unpage: standard input cannot be read" >&2; exit 0; fi
 if grep -q 'count=1'; then echo block=0; echo counts=0,0,0,0,0,0,0,0,0,0,0,0,0,0,0,0,0,0,0,0,0,0,0,-2; else echo refused=9; fi
 STAND_IN
-cat >"$work/repo/target/bin/sizes" <<'STAND_IN'
+cat >"$work/repo/crates/sizes/out/sizes" <<'STAND_IN'
 #!/usr/bin/env bash
 if [ -n "${FAILS:-}" ]; then echo "sizes: standard input cannot be read" >&2; exit 0; fi
 if grep -q 'count=1'; then printf '%s\n' blocks=1 sum=32 largest=1 smallest=-3 odd=1 block=0 sum=32 largest=1 smallest=-3 odd=1; else echo refused=9; fi
 STAND_IN
 # Answers the page of the example where the input is its trace, refuses num=1 with a 4 in block 0, and any other text with 9.
-cat >"$work/repo/target/bin/mkpage" <<'STAND_IN'
+cat >"$work/repo/crates/mkpage/out/mkpage" <<'STAND_IN'
 #!/usr/bin/env bash
 if [ -n "${FAILS:-}" ]; then echo "mkpage: standard input cannot be read" >&2; exit 0; fi
 case $(head -n 1) in
@@ -44,7 +58,7 @@ num=1) printf 'refused=4\nblock=0\n' ;;
 *) echo refused=9 ;;
 esac
 STAND_IN
-cat >"$work/repo/target/bin/ask" <<'STAND_IN'
+cat >"$work/repo/crates/ask/out/ask" <<'STAND_IN'
 #!/usr/bin/env bash
 while read -r line; do case $line in 'decode 1') echo point=1 ;; *) echo refused=9 ;; esac; done
 STAND_IN
@@ -102,7 +116,7 @@ for part in $PARTS; do
     n=$((n + 1))
 done
 STAND_IN
-chmod +x "$work/bin/"* "$work/repo/target/bin/"*
+chmod +x "$work/bin/"* "$work/repo/crates/"*/out/*
 # TMPDIR: what a script leaves where answers differ goes with the rest.
 export PATH=$work/bin:$PATH RUN=env CALLED=$work/called TMPDIR=$work
 unset ORACLE ASK GEN KINDS EVEN PROGRAM NEAREST UNPAGE MKPAGE PROGRAMS YULTARVAS_LIB
@@ -148,7 +162,8 @@ done
 untouched 2 'no file no/such.page' bash tools/unpage.sh samples/example.page no/such.page
 untouched 2 'cannot be read' bash tools/unpage.sh samples
 try 0 '^counts=0,0,' bash tools/unpage.sh samples/example.page
-try 0 '^word is proved (13 s)$' bash tools/unpage.sh samples/example.page
+try 0 '^block=0$' bash -c 'bash tools/unpage.sh samples/example.page 2>/dev/null | head -n 1'
+try 0 '^word is proved ([0-9]* s)$' bash tools/unpage.sh samples/example.page
 try 0 '^page=samples/example.page$' bash tools/unpage.sh samples/example.page samples/example.page
 try 1 '^refused=9$' bash tools/unpage.sh
 try 1 '^refused=9$' bash tools/unpage.sh no.page
@@ -160,7 +175,7 @@ try 1 'cannot be read' env FAILS=1 bash tools/unpage.sh samples/example.page
 untouched 2 'no file no/such.page' bash tools/sizes.sh samples/example.page no/such.page
 untouched 2 'cannot be read' bash tools/sizes.sh samples
 try 0 '^smallest=-3$' bash tools/sizes.sh samples/example.page
-try 0 '^word is proved (13 s)$' bash tools/sizes.sh samples/example.page
+try 0 '^word is proved ([0-9]* s)$' bash tools/sizes.sh samples/example.page
 try 0 '^page=samples/example.page$' bash tools/sizes.sh samples/example.page samples/example.page
 try 1 '^refused=9$' bash tools/sizes.sh
 try 1 '^refused=9$' bash tools/sizes.sh no.page
@@ -180,7 +195,7 @@ untouched 2 'no file no/such.trace' bash tools/mkpage.sh no/such.trace
 untouched 2 'no file $' bash tools/mkpage.sh ''
 untouched 2 'cannot be read' bash tools/mkpage.sh samples
 try 0 '^word=000000003800$' bash tools/mkpage.sh samples/example.trace
-try 0 '^word is proved (13 s)$' bash tools/mkpage.sh samples/example.trace
+try 0 '^word is proved ([0-9]* s)$' bash tools/mkpage.sh samples/example.trace
 try 0 '^word=000000003800$' bash -c 'bash tools/mkpage.sh <samples/example.trace'
 try 1 '^refused=9$' bash tools/mkpage.sh
 try 1 '^refused=9$' bash tools/mkpage.sh no.page
@@ -201,7 +216,8 @@ touch library/libyultarvas.a
 rom() { env YULTARVAS_LIB=library PARTS="$*" bash tools/rom.sh; }
 untouched 2 'no no/such/libyultarvas.a' env YULTARVAS_LIB=no/such bash tools/rom.sh
 untouched 2 'not for x86-64' env YULTARVAS_LIB=library MACHINE=AArch64 bash tools/rom.sh
-try 1 'not built' env RT_SAYS=no bash tools/rom.sh
+try 1 'the static library yultarvas was not built' env RT_SAYS=no bash tools/rom.sh
+try 0 '^code 0, constants 0, together 0;' env PARTS= bash tools/rom.sh
 try 0 '^ *23 *tetra$' rom .text.tetra::decode=000010=AX .text.tetra::encode=000007=AX .text.yultarvas_decode=000010=AX
 try 0 '^ *16 *yultarvas$' rom .text.yultarvas_decode=000010=AX
 try 0 '^code 32, constants 16, together 48;' rom .text.word::get=000020=AX .rodata.cst16=000010=AM .comment=00000e=MS
@@ -211,7 +227,12 @@ try 1 'can be written' rom .text.word::get=000020=AX .data.word=000004=WA
 try 1 'more than was recorded' rom .text.word::get=000020=AX .rodata.cst16=020000=AM
 
 untouched 2 'name of one program' bash tools/run.sh
-untouched 2 'no target/bin/nothing' bash tools/run.sh nothing
+untouched 2 'no crates/nothing/out/nothing' bash tools/run.sh nothing
+untouched 2 'no crate nothing' bash tools/native.sh unpage nothing
+untouched 2 'word is neither a program nor a static library' bash tools/native.sh word
+try 0 '^target/native/unpage$' bash tools/native.sh unpage
+try 0 '^target/native/libyultarvas.a$' bash tools/native.sh
+try 1 'the static library yultarvas was not built' env RT_SAYS=no bash tools/native.sh yultarvas
 untouched 2 'three numbers' bash tools/compare.sh
 untouched 2 'a is not a whole number' env ORACLE=true bash tools/compare.sh a 1 1
 untouched 2 'ORACLE has to name' bash tools/compare.sh 1 1 1

@@ -13,7 +13,7 @@ by word to a page that grows, accepted or refused. Requests for the other refusa
 
 From the environment:
     YULTARVAS_LIB  a folder with a libyultarvas.a for this machine; target/native where it is not set
-    SIZES          the program sizes; target/bin/sizes, run by tools/run.sh, where it is not set
+    SIZES          the program sizes; crates/sizes/out/sizes, run by tools/run.sh, where it is not set
 
 Exit status: 0 all is as it should be; 1 something is not; 2 a wrong argument.
 
@@ -887,8 +887,8 @@ def main(arguments):
     if missed:
         print("the model does not give %s" % " ".join(missed))
         return 1
-    if how == "--program" and not os.access(os.environ.get("SIZES", os.path.join(ROOT, "target", "bin", "sizes")), os.X_OK):
-        print("tests/summary.py: there is no program sizes: rt check sizes builds target/bin/sizes, or SIZES names another", file=sys.stderr)
+    if how == "--program" and not os.access(os.environ.get("SIZES", os.path.join(ROOT, "crates", "sizes", "out", "sizes")), os.X_OK):
+        print("tests/summary.py: there is no program sizes: bash tools/native.sh sizes builds crates/sizes/out/sizes, or SIZES names another", file=sys.stderr)
         return 2
     adds, seed = [int(n) for n in numbers] + [4000 if how else 20000, 1][len(numbers):]
     requests = made(adds, seed)

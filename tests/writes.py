@@ -6,7 +6,7 @@
     tests/writes.py --help    prints this
 
 From the environment:
-    PROGRAMS  the folder of the programs; target/bin, run by tools/run.sh, where it is not set
+    PROGRAMS  the folder of the programs; where it is not set, each is crates/NAME/out/NAME, run by tools/run.sh
     RUN       the command that runs a program, as an emulator and a loader with its options, where it needs one
 
 The programs get the input of their crate and are held to its stdout; ask also gets 40,000 words, whose points are worked out in pages.py, and
@@ -296,10 +296,10 @@ def main(arguments):
             print(f"writes.py: there is no program {name}\n{__doc__}", file=sys.stderr)
             return 2
     names = arguments or NAMES
-    folder = os.environ.get("PROGRAMS", os.path.join(ROOT, "target", "bin"))
     for name in names:
-        if not os.access(os.path.join(folder, name), os.X_OK):
-            print(f"writes.py: there is no program {os.path.join(folder, name)}: rt check {name} builds target/bin/{name}", file=sys.stderr)
+        path = os.path.join(os.environ.get("PROGRAMS", os.path.join(ROOT, "crates", name, "out")), name)
+        if not os.access(path, os.X_OK):
+            print(f"writes.py: there is no program {path}: bash tools/native.sh {name} builds crates/{name}/out/{name}", file=sys.stderr)
             return 2
     tally = Tally()
     for name in names:

@@ -8,7 +8,7 @@
 From the environment:
     ORACLE         the program over the Rust that answers request lines
     YULTARVAS_LIB  a folder with a libyultarvas.a for this machine; target/native where it is not set
-    MKPAGE, UNPAGE the programs; target/bin/mkpage and target/bin/unpage, run by tools/run.sh, where they are not set
+    MKPAGE, UNPAGE the programs; crates/mkpage/out/mkpage and crates/unpage/out/unpage, run by tools/run.sh, where they are not set
     RUN            the command that runs the programs, as an emulator and a loader with its options, where they need one
 
 Exit status: 0 all is as it should be; 1 something is not; 2 a wrong argument.
@@ -369,9 +369,9 @@ def main(words):
         return 2
     if program_only:
         for name in ("mkpage", "unpage"):
-            path = os.environ.get(name.upper(), os.path.join(ROOT, "target", "bin", name))
+            path = os.environ.get(name.upper(), os.path.join(ROOT, "crates", name, "out", name))
             if not shutil.which(path):
-                print("tests/written.py: there is no program %s: rt check %s builds target/bin/%s" % (path, name, name), file=sys.stderr)
+                print("tests/written.py: there is no program %s: bash tools/native.sh %s builds crates/%s/out/%s" % (path, name, name, name), file=sys.stderr)
                 return 2
         return 0 if by_program(oracle) else 1
     many, seed = (list(map(int, words)) + [20000, 1][len(words):])[:2]

@@ -1,7 +1,6 @@
 #!/usr/bin/env bash
-# Proves and builds the static library for this machine (tools/native.sh), and runs over it the tests and
-# examples of bindings/rust, the programs of bindings/c, and an installation of the C library. It runs on
-# x86-64 and on Arm (aarch64).
+# Proves and builds the static library (tools/native.sh), and runs over it the tests and examples of
+# bindings/rust, the programs of bindings/c, and an installation of the C library. It runs on x86-64 Linux.
 #   bash tools/bindings.sh
 # It needs the Rattle toolchain, cargo and a C compiler; no network, and no crate beside bindings/rust. From
 # the environment:

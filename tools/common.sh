@@ -59,31 +59,54 @@ library() {
     fi
 }
 
-# Proves and builds the program $1, with a line on standard error for each crate that had to be proved. All
-# that the toolchain says goes to a file. Of two scripts in a pipe one waits for the other: the toolchain keeps
-# what it has proved in one folder.
+# Reads what the toolchain says, and prints a line for each crate as it is proved, with the seconds that it took.
+proved_crates() {
+    local line crate='' from=$SECONDS
+    while IFS= read -r line; do
+        case $line in
+        'crate '*:*)
+            crate=${line#crate }
+            crate=${crate%%:*}
+            ;;
+        logic=*)
+            case $line in
+            logic=proved*) echo "$crate is proved ($((SECONDS - from)) s)" ;;
+            *) echo "$crate NOT PROVED ($((SECONDS - from)) s)" ;;
+            esac
+            from=$SECONDS
+            ;;
+        esac
+    done
+}
+
+# Proves and builds the program $1, or with lib behind it the static library $1, with a line on standard error
+# for each crate that had to be proved. All that the toolchain says goes to a file. It builds a program and runs
+# it in one: that run has no input, and its output goes nowhere. Of two scripts in a pipe one waits for the
+# other: the toolchain lets one at a time work in a crate.
 prove() {
-    local log=$root/target/$1.log status=0 alone=()
-    if command -v flock >/dev/null; then alone=(flock "$root/target/prove.lock"); fi
+    local what=program made=$root/crates/$1/out/$1 log=$root/target/$1.log status=0
+    if [ "${2:-}" = lib ]; then what='static library' made=$root/crates/$1/out/lib$1.a; fi
     if ! command -v rt >/dev/null; then
         echo "rt is not on the path: this needs the Rattle toolchain" >&2
         exit 2
     fi
     mkdir -p "$root/target"
-    if [ ! -e "$root/target/bin/$1" ]; then
+    if [ ! -e "$made" ]; then
         echo "proving and building $1 and the crates that it needs, which takes minutes (log: $log)" >&2
     fi
-    (cd "$root" && "${alone[@]}" rt check "$1" </dev/null 2>&1) | tee "$log" | awk '
-        /^rt: [^ ]+ proved \([0-9]+ s\)$/ { print $2 " is proved " $4 " " $5; fflush() }' >&2 || status=$?
+    (
+        cd "$root/crates/$1"
+        if [ "$what" = program ]; then rt run </dev/null 2>&1 >/dev/null; else rt lib </dev/null 2>&1; fi
+    ) | tee "$log" | proved_crates >&2 || status=$?
     if [ "$status" -ne 0 ]; then
-        grep '^rt: .*\(NOT PROVED\|FAILED\)' "$log" >&2 || tail -n 3 "$log" >&2
-        echo "the program $1 was not built; $log has what the toolchain said" >&2
+        grep -E '^(fn|struct|enum) .*: not proved|^rt: the library .* did not build' "$log" >&2 || tail -n 3 "$log" >&2
+        echo "the $what $1 was not built; $log has what the toolchain said" >&2
         exit 1
     fi
 }
 
 # Runs the program $1 that is built. The status is 1 where it says on standard error that a read or a write
-# failed: a program of Rattle cannot set its own.
+# failed: its own is 0 then too.
 run() {
     local said status=0
     said=$(mktemp)

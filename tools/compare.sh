@@ -8,7 +8,7 @@
 # Part k has the requests of `oracle gen SEED+k TURNS`: in each turn a word, a point that has a word, that point with one to three coordinates
 # damaged, and a block of samples at a scale, at its own scale, for its lower scale, and scored against a point. From the environment:
 #   ORACLE  the program over the Rust that answers request lines and generates them
-#   ASK     the program; target/bin/ask, run by tools/run.sh, where it is not set
+#   ASK     the program; crates/ask/out/ask, run by tools/run.sh, where it is not set
 #   RUN     the command that runs the program, as an emulator and a loader with its options, where it needs one
 #   GEN     the command that prints the requests of a seed and a number of turns; "ORACLE gen" where it is not set
 #   KINDS   the requests that are kept; decode|point|scale|auto|lower|score where it is not set
@@ -39,7 +39,7 @@ if [ -n "${ASK:-}" ]; then
     read -ra ask <<<"${RUN:-}"
     ask+=("$ASK")
 else
-    if [ ! -x "$root/target/bin/ask" ]; then wrong "there is no target/bin/ask: rt check ask builds it, or ASK names another"; fi
+    if [ ! -x "$root/crates/ask/out/ask" ]; then wrong "there is no crates/ask/out/ask: bash tools/native.sh ask builds it, or ASK names another"; fi
     ask=(bash "$root/tools/run.sh" ask)
 fi
 work=$(mktemp -d)

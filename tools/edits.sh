@@ -14,8 +14,6 @@ for name in "$@"; do
 done
 if [ $# -eq 0 ]; then set -- "${all[@]}"; fi
 scratch
-cp -r "$root/crates" "$root/crates.txt" "$work/"
-if [ -d "$root/target" ]; then cp -r "$root/target" "$work/"; fi
-rm -rf "$work"/crates/*/must-fail
+tar -C "$root" --exclude='crates/*/out' --exclude='crates/*/must-fail' -cf - crates crates.txt | tar -C "$work" -xf -
 for name in "$@"; do cp -r "$root/edits/$name" "$work/crates/$name/must-fail"; done
 cd "$work" && rt must-fail "$@"

@@ -7,7 +7,7 @@
 
 Nothing here uses a float operation: a double is a whole number times a power of two, and every comparison is one of exact integers or
 fractions. Each root is found twice, by bisection over the doubles in order, with squares of fractions, and by math.isqrt; the two must agree.
-The files were made by --write; the program is held to them by `rt check` and `rt ci`.
+The files were made by --write; the program is held to them by `rt ci`.
 """
 import math, os, random, sys
 from fractions import Fraction

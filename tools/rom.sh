@@ -1,8 +1,8 @@
 #!/usr/bin/env bash
 # Measures how much read-only memory the static library takes: its code and its constants, by part.
 #   bash tools/rom.sh
-# It has the toolchain prove and build the library for x86-64 (`rt staticlib`), unless YULTARVAS_LIB names a
-# folder with a libyultarvas.a for x86-64. It needs readelf, of GNU binutils.
+# It has the toolchain prove and build the library for x86-64 (`rt lib` in crates/yultarvas), unless YULTARVAS_LIB
+# names a folder with a libyultarvas.a for x86-64. It needs readelf, of GNU binutils.
 #
 # A constant array is made anew in each function that reads it: beside its bytes it takes nearly as many of
 # code, in each of them. So a table that comes to be read in a second place is seen here and nowhere else. It
@@ -19,14 +19,8 @@ holds=rows::look # the function that has one
 
 command -v readelf >/dev/null || { echo "rom.sh: no readelf on the path" >&2; exit 2; }
 if [ -z "${YULTARVAS_LIB:-}" ]; then
-    command -v rt >/dev/null || { echo "rom.sh: no rt on the path: it is the Rattle toolchain's command" >&2; exit 2; }
-    mkdir -p "$root/target"
-    echo "proving and building the library (log: $root/target/rom.log)" >&2
-    if ! (cd "$root" && rt staticlib yultarvas >target/rom.log 2>&1); then
-        echo "rom.sh: the library was not built" >&2
-        exit 1
-    fi
-    YULTARVAS_LIB=$root/target/staticlib
+    prove yultarvas lib
+    YULTARVAS_LIB=$root/crates/yultarvas/out
 fi
 archive=$YULTARVAS_LIB/libyultarvas.a
 if [ ! -f "$archive" ]; then wrong "there is no $archive"; fi

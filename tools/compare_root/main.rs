@@ -1,11 +1,10 @@
 // Compares the proved root and rounding with the Rust's: f64::sqrt, and z.clamp(-1e6, 1e6).round() as i32.
 //
-//     rt check float_runs
+//     bash tools/native.sh float_runs
 //     rustc -O tools/compare_root/main.rs -o target/compare_root
-//     target/compare_root 12000000 1 target/bin/float_runs
+//     target/compare_root 12000000 1 crates/float_runs/out/float_runs
 //
-// The arguments are how many doubles, the seed of the random numbers, and the command that runs the program. On another machine than x86-64
-// that is `bash tools/run.sh float_runs`, which runs it by the toolchain's emulator.
+// The arguments are how many doubles, the seed of the random numbers, and the command that runs the program.
 //
 // Several may run beside each other, with other seeds. Exit status 0: no difference.
 use std::io::{BufRead, BufReader, BufWriter, Write};
