@@ -23,19 +23,16 @@ HEAD = """-- The points of 71 words, written out as the Rust decodes them: of th
 -- hold fast where each field stands in a word, the columns of the code, trio order, and the rows that these words
 -- name: were one of them changed in definition and code together, a point here would be another. tools/pins.py
 -- writes this file. Assumes nothing.
-use mathlib.Core.Path.{_≡_, refl}
-use mathlib.Core.List.{List, [], _∷_, map}
-use Prim.Native.Nat.{ℕ, _^_}
-use lib.IntN.{ℤ, pos, negsuc}
-use Rattle·laws.specs.Words.{tab}
-use Rattle·word.specs.Word as word
-use Rattle·rank.specs.Coord.{valOf}
-use Rattle·rank.specs.Section.{pointAt}
-use Rattle·rows.specs.Rows.{rows}
-use Rattle·rows.specs.Table.{rowRanks, middleClass, middleRow}
-use Rattle·trellis.specs.Code.{columns}
-use Rattle·trellis.specs.Trio.{order, places}
-use Rattle·tetra·specs.specs.Tetra.{codewordAt, thirdClass, ranksAt, trioPoint, natural, trioPointOf, pointOf}
+use Rattle.std.specs.Prelude.{◌≡◌, refl, List, [], ◌∷◌, map, ℕ, ◌^◌, ℤ, pos, negsuc}
+use Rattle.laws.specs.Words.{tab}
+use Rattle.word.specs.Word as word
+use Rattle.rank.specs.Coord.{val_of}
+use Rattle.rank.specs.Section.{point_at}
+use Rattle.rows.specs.Rows.{rows}
+use Rattle.rows.specs.Table.{row_ranks, middle_class, middle_row}
+use Rattle.trellis.specs.Code.{columns}
+use Rattle.trellis.specs.Trio.{order, places}
+use Rattle.tetra.specs.Tetra.{codeword_at, third_class, ranks_at, trio_point, natural, trio_point_of, point_of}
 
 -- ---- the coordinates that occur: p4 is 4, m4 is -4, o is 0
 """
@@ -47,14 +44,14 @@ has w y = (w, y)
 
 THEOREM = """-- ---- each word decodes to its point
 abbrev decoded : ℕ × List ℤ → List ℤ
-decoded e = pointOf (e .0)
+decoded e = point_of e.0
 
 abbrev written : ℕ × List ℤ → List ℤ
-written e = e .1
+written e = e.1
 
-pub pinned : (map decoded oneBit ≡ map written oneBit) × (map decoded allFields ≡ map written allFields)
-unfolding tab word.fieldAt valOf pointAt rows rowRanks middleClass middleRow columns order places codewordAt
-    thirdClass ranksAt trioPoint natural trioPointOf pointOf
+pub pinned : (map decoded one_bit ≡ map written one_bit) × (map decoded all_fields ≡ map written all_fields)
+unfolding tab word.field_at val_of point_at rows row_ranks middle_class middle_row columns order places codeword_at
+    third_class ranks_at trio_point natural trio_point_of point_of
 pinned = (refl, refl)
 """
 
@@ -106,8 +103,8 @@ def made(oracle):
     full = full_words()
     at = points(oracle, [1 << k for k in range(47)] + full)
     coordinates = [defined(c) for c in sorted({c for point in at for c in point})]
-    bits = listed("oneBit", [f"(2 ^ {k})" for k in range(47)], at[:47])
-    fields = listed("allFields", [f"0x{w:012x}" for w in full], at[47:])
+    bits = listed("one_bit", [f"(2 ^ {k})" for k in range(47)], at[:47])
+    fields = listed("all_fields", [f"0x{w:012x}" for w in full], at[47:])
     return "\n".join([HEAD.rstrip("\n")] + coordinates + [CASE, bits, fields, THEOREM])
 
 

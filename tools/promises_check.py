@@ -44,7 +44,9 @@ def read(path):
 def below(folder, endings):
     """The files below a folder that have one of the endings."""
     found = []
-    for base, _, names in os.walk(folder):
+    for base, folders, names in os.walk(folder):
+        if 'out' in folders:  # what the toolchain keeps
+            folders.remove('out')
         found += [os.path.join(base, n) for n in sorted(names) if n.endswith(endings)]
     return found
 
@@ -65,6 +67,11 @@ def declared(path):
     return names
 
 
+def of_function(path):
+    """Whether the file is of the proof of a function, and not one of theorems."""
+    return os.sep + 'proofs' + os.sep in path and os.path.basename(os.path.dirname(path)) != 'proofs'
+
+
 class Tree:
     """What crates/ declares, file by file."""
 
@@ -72,7 +79,7 @@ class Tree:
         self.names = {}
         for crate in CRATES:
             for path in below(os.path.join(ROOT, 'crates', crate), ('.antt', '.rt')):
-                if os.sep + 'proofs' + os.sep not in path and os.sep + 'must-fail' + os.sep not in path:
+                if not of_function(path) and os.sep + 'must-fail' + os.sep not in path:
                     self.names[path] = declared(path)
 
     def files(self, short):

@@ -1,11 +1,12 @@
 #!/usr/bin/env python3
-"""Holds what two commits promise side by side: public contracts, and public statements of specs/.
+"""Holds what two commits promise side by side: public contracts, and public statements of specs/ and of the theorems in proofs/.
 
     tools/side_by_side.py BEFORE [AFTER]   AFTER is HEAD where it is not named
     tools/side_by_side.py --help           prints this
 
 Printed are the calls, structs and enums, and then the statements, that are gone, changed or (of calls) new; a statement that stands under another
-name or in another crate is said to be moved. Whether a changed one is weaker is for a reader to tell.
+name or in another crate is said to be moved. Whether a changed one is weaker is for a reader to tell. Both commits have to be of the same spelling:
+what was respelled between them is said to be gone.
 
 Exit status: 0; 2 a wrong argument.
 """
@@ -46,7 +47,7 @@ def contracts(commit):
 
 def statements(commit):
     found = {}
-    for crate, text in files(commit, r"crates/[^/]+/specs/.*\.antt$"):
+    for crate, text in files(commit, r"crates/[^/]+/(specs/.*|proofs/[^/]+)\.antt$"):
         lines = re.sub(r"(^|\s)--.*", "", text).split("\n")
         i = 0
         while i < len(lines):

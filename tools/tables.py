@@ -116,8 +116,15 @@ def fallbacks(prefixes, suffixes, table):
 
 # ---- how a table is laid out
 def lines(items, named=None):
-    """One number to a line, as the formatter has it; named gives some a comment."""
-    return "\n" + "".join("    %s,%s\n" % (x, " // " + named[i] if named and i in named else "") for i, x in enumerate(items))
+    """As many numbers to a line as the formatter puts there, up to column 99; named gives some a comment, which ends its line."""
+    out, line = "\n", "   "
+    for i, x in enumerate(items):
+        if len(line) + len(" %s," % x) > 99:
+            out, line = out + line + "\n", "   "
+        line += " %s," % x
+        if named and i in named:
+            out, line = out + line + " // " + named[i] + "\n", "   "
+    return out + line + "\n" if line.strip() else out
 
 
 def row(items):
@@ -142,7 +149,7 @@ def sets(middles):
     """The middle bytes: those of eight states in a row are the same."""
     own = [middles[8 * k] for k in range(8)]
     assert middles == [own[s // 8] for s in range(64)]
-    rows_ = ["eightTimes (%s ∷ [])" % " ∷ ".join(str(x) for x in o) for o in own]
+    rows_ = ["eight_times (%s ∷ [])" % " ∷ ".join(str(x) for x in o) for o in own]
     return "\n    " + "\n    (".join(rows_) + "\n    [])))))))\n"
 
 
@@ -172,8 +179,8 @@ def tables():
         ("rows/specs/Rows.antt", "rows", listed(packed, 8, False)),
         ("fallback_entries/src/tables.rt", "FALLBACK_BYTES", lines(fb_bytes, {64 * i: "bytes of " + n for i, n in enumerate(regions)})),
         ("fallback_entries/src/tables.rt", "FALLBACK_KEYS", lines(fb_keys, {64 * i: "rows of " + n for i, n in enumerate(regions)})),
-        ("search/specs/Tables.antt", "fallbackBytes", listed(fb_bytes, 16, True)),
-        ("search/specs/Tables.antt", "fallbackKeys", listed(fb_keys, 8, True)),
+        ("search/specs/Tables.antt", "fallback_bytes", listed(fb_bytes, 16, True)),
+        ("search/specs/Tables.antt", "fallback_keys", listed(fb_keys, 8, True)),
     ]
 
 

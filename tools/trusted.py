@@ -23,7 +23,8 @@ where its type ends in an equation, an order, another connective of propositions
 repository; else it is a definition. Names are found by their spelling: a bound variable that is spelled like
 an imported definition counts as that definition. A name in docs/PROMISES.md means the theorem of the file
 that its line names. Where it names none, a name that is a definition's or a call's too means that; any other
-means every theorem of that name. What the script cannot read is an error, and no list is made.
+means every theorem of that name in specs/, or, where none stands there, every public one in proofs/. What the
+script cannot read is an error, and no list is made.
 
 A definition's lines are those of its type and its clauses, without comments and blank lines.
 """
@@ -95,7 +96,7 @@ def stripped(line):
 
 # ---- the files
 class Spec:
-    """A file of specs/: what it brings in by `use`, and its items."""
+    """A file of specs/, or of theorems in proofs/: what it brings in by `use`, and its items."""
 
     def __init__(self, path):
         self.place = str(path.relative_to(ROOT / 'crates'))[:-len('.antt')]
@@ -202,12 +203,12 @@ def is_signature(text):
 
 def module_of(path):
     """A `use` path as a place below crates/, or as the library's module it is."""
-    m = re.match(r'Rattle·(\w+?)(?:·specs)?\.(specs\..*)$', path)
+    m = re.match(r'Rattle\.(\w+)\.((?:specs|proofs)\..*)$', path)
     if not m or not (ROOT / 'crates' / m.group(1)).is_dir():
         return 'library ' + path
     crate, parts = m.group(1), m.group(2).split('.')
     if 'declared' in parts:
-        parts = [p for p in parts[2:] if p != 'the-variants']
+        parts = [p for p in parts[2:] if p != 'TheVariants']
         return '%s/src/%s' % (crate, parts[0] if len(parts) > 1 else 'lib'), parts[-1]
     return '%s/%s' % (crate, '/'.join(parts))
 
@@ -239,13 +240,14 @@ class Tree:
     def __init__(self):
         self.specs, self.sources = {}, {}
         for line in (ROOT / 'crates.txt').read_text(encoding='utf-8').split('\n'):
-            name = line.partition('#')[0].partition(':')[0].strip()
+            name = line.partition('#')[0].partition(':')[0].strip().removesuffix(' staticlib')
             if not name:
                 continue
-            for path in sorted((ROOT / 'crates' / name / 'specs').rglob('*.antt')):
+            crate = ROOT / 'crates' / name
+            for path in sorted((crate / 'specs').rglob('*.antt')) + sorted((crate / 'proofs').glob('*.antt')):
                 spec = Spec(path)
                 self.specs[spec.place] = spec
-            for path in sorted((ROOT / 'crates' / name / 'src').glob('*.rt')):
+            for path in sorted((crate / 'src').glob('*.rt')):
                 source = Source(path, name)
                 self.sources[source.place] = source
         self.order = {place: k for k, place in enumerate(list(self.specs) + list(self.sources))}
@@ -294,15 +296,15 @@ class Tree:
         out = []
         infix = {}
         for name in list(file.uses) + list(file.items):
-            if '_' in name:
-                for part in name.split('_'):
+            if '◌' in name:
+                for part in name.split('◌'):
                     if part:
                         infix.setdefault(part, name)
         for k, word in enumerate(words):
             before = words[k - 1] if k else ''
             if word in KEYWORDS or word[0] in '(){}.;,@"':
                 continue
-            if word.startswith('Rattle·'):
+            if word == 'Rattle':
                 raise Unread('%s: a name by its whole path' % file.place)
             if before == '.' and k > 1 and words[k - 2] in file.modules:
                 out.append(self.item(file.modules[words[k - 2]], word))
@@ -404,7 +406,8 @@ class Tree:
                 name = quoted.partition(' : ')[0]
                 places = [s for s in self.specs.values() if name in s.items and s.items[name].plain()
                           and s.place.split('/')[0] not in PARTS]
-                near = [s for s in places if s.place.split('specs/')[1] in line]
+                near = [s for s in places if (s.place.partition('/specs/')[2] or s.place) in line]
+                places = [s for s in places if '/specs/' in s.place] or [s for s in places if 'pub' in s.items[name].marks]
                 for spec in near or ([] if name in defined else places):
                     out += self.mentions(spec, spec.items[name].around + spec.items[name].type)
         return out
@@ -492,7 +495,7 @@ def rest(tree, believed):
     text = PROMISES.read_text(encoding='utf-8')
     named = {n.partition(' : ')[0] for n in re.findall(r'`([^`]+)`', text)}
     for place, spec in tree.specs.items():
-        if place.count('/') != 2 or place.split('/')[2] in ('Lib', 'Laws', 'Inner'):
+        if place.count('/') != 2 or place.split('/')[1] != 'specs' or place.split('/')[2] in ('Lib', 'Laws', 'Inner'):
             continue
         idle = [i.name for i in spec.items.values() if i.key() not in believed and i.kind != 'constructor'
                 and not (i.plain() and i.name in named)]

@@ -1,11 +1,12 @@
 #!/usr/bin/env python3
-"""Looks for statements of specs/ that stand twice.
+"""Looks for statements of specs/, and public ones of the theorems in proofs/, that stand twice.
 
     tools/twice.py          prints each statement that stands in more than one place, with the places
     tools/twice.py --help   prints this
 
 Bound names count for nothing: they are numbered in the order in which they are bound. Looked at are all signatures below crates/*/specs, local
-ones too, that bind every name that they speak of; fields of records and cases of data types are definitions, not laws.
+ones too, and the public ones of crates/*/proofs/*.antt, that bind every name that they speak of; fields of records and cases of data types are
+definitions, not laws.
 
 Exit status: 0 no statement stands twice; 1 one does; 2 a wrong argument.
 """
@@ -26,7 +27,7 @@ def indent(line):
 
 
 def statements(path):
-    """Name, line and type of each signature that stands outside records and data types."""
+    """Name, line, type and marks of each signature that stands outside records and data types."""
     lines = [re.sub(r"(^|\s)--.*$", "", line) for line in open(path, encoding="utf-8").read().split("\n")]
     block = None
     i = 0
@@ -46,7 +47,7 @@ def statements(path):
         while i < len(lines) and lines[i].strip() and indent(lines[i]) > len(found.group(1)) and not lines[i].strip().startswith("unfolding"):
             kind += " " + lines[i].strip()
             i += 1
-        yield found.group(3), first, kind
+        yield found.group(3), first, kind, found.group(2).split()
 
 
 def numbered(kind):
@@ -76,8 +77,11 @@ def main(words):
         print(__doc__.strip(), file=sys.stderr)
         return 2
     places, seen = collections.defaultdict(list), 0
-    for path in sorted(glob.glob(ROOT + "/crates/*/specs/**/*.antt", recursive=True)):
-        for name, line, kind in statements(path):
+    of_specs, of_proofs = (sorted(glob.glob(ROOT + "/crates/*/" + files, recursive=True)) for files in ("specs/**/*.antt", "proofs/*.antt"))
+    for path in of_specs + of_proofs:
+        for name, line, kind, marks in statements(path):
+            if path in of_proofs and "pub" not in marks:
+                continue
             seen += 1
             said = numbered(kind)
             if said and any(fact in said for fact in FACTS):
