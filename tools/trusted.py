@@ -232,7 +232,8 @@ class Source:
             self.items[name] = item
         calls = r'^ *pub (?:extern "C" )?fn (\w+)(.*?)(?:^ *|\) *|-> *\S+ +)\{$'
         for found in re.finditer(calls, text, re.M | re.S):
-            self.calls[found.group(1)] = tokens(found.group(2).replace('::', ' '))
+            said = re.sub(r'\b(ensures|requires) \w+ \{', r'\1 {', found.group(2))  # a clause's name is none of a definition
+            self.calls[found.group(1)] = tokens(said.replace('::', ' '))
 
 
 # ---- the tree
