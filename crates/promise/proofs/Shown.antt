@@ -25,9 +25,7 @@ use Rattle.root.specs.Root.{NearestRoot, rooted}
 use Rattle.root.specs.Nearest.{rooted-nearest}
 use Rattle.root.specs.declared.Rooted.{Rooted}
 use Rattle.score.specs.Samples.{AllFit, sample_number}
-use Rattle.score.specs.Score.{t_of, scored}
 use Rattle.score.specs.Scale.{largest_of, lower_scale, scales}
-use Rattle.score.specs.declared.Scored.{Scored}
 use Rattle.score.specs.declared.Scales.{Scales}
 use Rattle.encoder.specs.declared.Code.{Code}
 use Rattle.encoder.specs.Encode.{empty_code, number_at, encode_at_scale, number_of, encode_with}
@@ -58,7 +56,6 @@ use Rattle.promise.specs.Demands.{
   Numbered,
   KeepsCode,
   ReturnsNearest,
-  Scores,
   Scaled,
   RootIsNearest,
   RootOfZero,
@@ -172,10 +169,6 @@ module _ (x : List Float) (l : length x ≡ 24) (f : AllFit x) (c : Code) (y : L
       }
 
 -- ---- what samples give besides
-pub of_score : (x : List Float) (y : List ℤ) (r : Scored) → r ≡ scored x y
-    → Scores (sample_number x) (t_of x y) r
-of_score x y r q = (λ h. q ∙ rw (eq-eqb (sample_number x) 0 h), λ h. q ∙ rw (ne_eqb (sample_number x) 0 h))
-
 -- the Rust's lower scale carries number 0, all samples zero or not
 one_number : (b : Bool) (s t : Scales) → s.number ≡ 0 → t.number ≡ 0 → (cond b s t).number ≡ 0
 one_number true s t p q = p
