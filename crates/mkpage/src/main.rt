@@ -22,7 +22,7 @@ fn complain(rt: &impl Eprint, what: &str) {
 }
 
 // No trace has more than 19,461 bytes, so an input that fills the buffer is none, whatever follows
-// (start-tells of crate trace). Nothing is printed before the whole trace is read.
+// (start_tells of crate trace). Nothing is printed before the whole trace is read.
 fn main(rt: HostRuntime) {
     let mut text = [0u8; 19462];
     let read = input::read_all(&mut rt.stdin(), &mut text);
