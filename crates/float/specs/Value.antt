@@ -20,7 +20,7 @@ is_minus nan = false
 is_minus (inf s) = s
 is_minus (fin s m e) = s
 
--- the value is posUnits - negUnits, of which one is 0
+-- the value is pos_units - neg_units, of which one is 0
 abbrev pub pos_units : Float → ℕ
 pos_units x = cond (is_minus x) 0 (mag_units x)
 

@@ -152,7 +152,7 @@ sq-above w a n p P h l =
     lt_of_le_of_lt (le_of_eq (sym (mul_assoc 4 n (p * p))))
     (lt_of_lt_of_le (mul-lt-mul_of_pos_right l (mul-pos P P)) (le_trans (le_of_eq (sym (sq-scale a p))) (mul-le-mul h h)))
 
--- ---- r, of R * 2 ^ K units with R the whole number nearest to the root of n, where magUnits x * U is n * 4 ^ K
+-- ---- r, of R * 2 ^ K units with R the whole number nearest to the root of n, where mag_units x * U is n * 4 ^ K
 module _ (x r : Float) (n R K : ℕ) (eq : mag_units x * U ≡ n * (2 ^ K * 2 ^ K)) (made : Exactly r false (R * 2 ^ K)) (c : Closest n R)
     (full : 2 ^ 52 ≤ R) (big : 2 ^ 104 ≤ n) where
   above : (y : Float) → T (fits binary64 y) → T (finite y) → mag_units r < mag_units y

@@ -7,8 +7,8 @@ use Rattle.refusal.specs.Refusal.{out_of_range}
 use Rattle.float.specs.Value.{U, mag_units, is_minus, zero64}
 use Rattle.root.specs.declared.Rooted.{Rooted}
 
--- r is the double nearest to the root of x. x is magUnits x units, and one is U units, so the root of x is √(magUnits x * U) units. The middle
--- of r and another double y is half of magUnits y + magUnits r. The root lies above the middle of r and each smaller double, and below the
+-- r is the double nearest to the root of x. x is mag_units x units, and one is U units, so the root of x is √(mag_units x * U) units. The middle
+-- of r and another double y is half of mag_units y + mag_units r. The root lies above the middle of r and each smaller double, and below the
 -- middle of r and each larger one; it never lies on a middle. (A root is not negative, so magnitudes are enough.)
 pub record NearestRoot (x r : Float) : Type 0 where
   pub fit : T (fits binary64 r)

@@ -20,7 +20,7 @@ fn complain(rt: &impl Eprint, what: &str) {
     let _ = rt.eprintln(what);
 }
 
-// No page has more than 1,189 bytes, so an input that fills the buffer is none, whatever follows (start-tells
+// No page has more than 1,189 bytes, so an input that fills the buffer is none, whatever follows (start_tells
 // of crate page). Nothing is printed before the whole page is read.
 fn main(rt: HostRuntime) {
     let mut text = [0u8; 1190];

@@ -1,5 +1,5 @@
 -- The absolute error of each operation. Its operands are near exact numbers, its result is below 2 ^ b in size, and it is near the exact
--- result: the operands' errors go through, and the rounding adds halfUlp b. Assumes nothing.
+-- result: the operands' errors go through, and the rounding adds half_ulp b. Assumes nothing.
 use Rattle.std.specs.Prelude.{◌≡◌, ℕ, zero, suc, ◌+◌, ◌-◌, ◌*◌, ◌^◌, ◌<◌, ◌≤◌, Bool, true, false, cond, not, T, ◌==◌, nat_lt, refl, Float}
 use Rattle.std.proofs.Common.{sym, ap, ap₂, ◌∙◌, subst, true≢false, le_refl, le_trans, le_of_eq, le_of_lt, lt_of_lt_of_le, lt_of_le_of_lt, lt_irrefl, zero-lt-suc, add-mul, mul-add, mul_comm, mul_assoc, mul_left_comm, mul-one, mul-pos, mul-le-mul, mul-le-mul_left, mul-le-mul_right, mul-lt-mul_of_pos_right, le_of_mul-le-mul_right, le-add_right, le-add_left, arith, ltb→lt, nltb→le, lit≤, pow_pos}
 use Rattle.std.proofs.Math.Nat.{mul-sub, mul-mul-mul_comm}

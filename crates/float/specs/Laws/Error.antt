@@ -69,7 +69,7 @@ place-le n den b D h =
     spare : (z : ℕ) → z ≤ b + 1074 → z - 53 ≤ suc (b + 1020)
     spare z h = omega arith
 
--- so the kept digits, in units, are within halfUlp b of the fraction n / den
+-- so the kept digits, in units, are within half_ulp b of the fraction n / den
 off : (n den b : ℕ) → 0 < den → n < 2 ^ (b + 1074) * den → Off (half_ulp b * den) (kept 53 n den * 2 ^ drop 53 n den * den) n
 off n den b D h =
     let k = drop 53 n den in
@@ -107,7 +107,7 @@ round_grid s num den h =
     (subst (λ (z : Float). HasValue z s (grid binary64 num den) U) (sym (round_is binary64 s num den))
     (units_val binary64 s (kept 53 (num * U) den) (drop 53 (num * U) den) h))
 
--- ---- THE ERROR LEMMA. x is a finite double of the sign s that is off v / w units by at most halfUlp b
+-- ---- THE ERROR LEMMA. x is a finite double of the sign s that is off v / w units by at most half_ulp b
 pub record Rounded (x : Float) (s : Bool) (v w b : ℕ) : Type 0 where
   pub fit : T (fits binary64 x)
   pub fin : T (finite x)

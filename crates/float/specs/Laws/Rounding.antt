@@ -157,7 +157,7 @@ rounded-le z f =
     size : (c : Float) → mag_units c ≤ 1000000 * U → unsigned_abs (round_away c) ≤ 1000000
     size c h = le_trans (le_of_eq (round-parts c).0) (half_up-le c h)
 
--- ---- k = roundAway z for z near (t - o) / 4: 4 k is within 2 of t - o, but for the error
+-- ---- k = round_away z for z near (t - o) / 4: 4 k is within 2 of t - o, but for the error
 abbrev Two : ℕ → ℕ → ℕ → ℕ → ℕ → ℕ → Type 0
 Two pk nk p n u e = (p + nk * u * 4 ≤ pk * u * 4 + n + (2 * u + e)) × (pk * u * 4 + n ≤ p + nk * u * 4 + (2 * u + e))
 

@@ -1,3 +1,4 @@
+-- `listing::with_rank` meets its contract: the rank goes above what the row holds, so `|` is a sum. Assumes nothing.
 use Prim.Native.Nat.{◌*◌, ◌^◌}
 use native.Mathlib.Nat.{add_comm, mul_comm, mul-add}
 use native.Mathlib.Omega.{arith}

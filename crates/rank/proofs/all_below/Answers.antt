@@ -1,3 +1,4 @@
+-- `rank::all_below`: what is left of the test at j. Assumes nothing.
 use mathlib.Core.Path.{◌≡◌, sym, ◌∙◌}
 use native.Mathlib.Omega.{arith}
 use borrow.Author.Rules.{rules}

@@ -1,3 +1,4 @@
+-- `rank::cost`. Assumes nothing.
 use mathlib.Core.Path.{refl, sym, ◌∙◌}
 use Rattle.rank.specs.Answers.{costed_of}
 use Rattle.rank.proofs.cost.Goals as goal

@@ -1,3 +1,4 @@
+-- `rank::lex_le`: the comparison of what is left. Assumes nothing.
 use mathlib.Core.Path.{◌≡◌}
 use Prim.Native.Nat.{◌-◌, ◌≤◌}
 use lib.ListN.{drop}

@@ -1,3 +1,4 @@
+-- `rank::mark`: what the lookup in y's own o + 4Z answers, as a mark. Assumes nothing.
 use mathlib.Core.Path.{◌≡◌, refl, sym, ap, ap₂, subst, ◌∙◌}
 use mathlib.Core.Bool.{Bool, true, false, cond}
 use Prim.Native.Nat.{ℕ, ◌<◌}

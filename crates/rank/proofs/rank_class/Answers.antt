@@ -1,3 +1,4 @@
+-- `rank::rank_class`. Assumes nothing.
 use mathlib.Core.Path.{refl, sym, ◌∙◌}
 use Rattle.rank.specs.Answers.{classed_of}
 use Rattle.rank.proofs.rank_class.Goals as goal

@@ -1,3 +1,4 @@
+-- `rank::rank_of`: no rank passed by the loop holds y. Assumes nothing.
 use mathlib.Core.Path.{◌≡◌, sym, ap, ◌∙◌}
 use native.Mathlib.Omega.{arith}
 use borrow.Author.Rules.{rules}

@@ -1,3 +1,4 @@
+-- `rank::sum_of_k`: the sum so far and the sum of what is left. Assumes nothing.
 use mathlib.Core.Path.{◌≡◌}
 use mathlib.Core.Bool.{true}
 use Prim.Native.Nat.{◌+◌, ◌<◌}

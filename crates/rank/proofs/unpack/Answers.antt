@@ -1,3 +1,4 @@
+-- `rank::unpack`: the ranks laid out so far. Assumes nothing.
 use mathlib.Core.Path.{sym, ◌∙◌}
 use native.Mathlib.Omega.{arith}
 use lib.Seq.{ext_get_or}

@@ -1,3 +1,4 @@
+-- `rank::val`. Assumes nothing.
 use borrow.Author.Rules.{rules}
 use mir.Syntax.{w32}
 use mir.Val.{SFits}

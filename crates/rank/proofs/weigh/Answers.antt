@@ -1,3 +1,4 @@
+-- `rank::weigh`: the sum so far and the cost of what is left. Assumes nothing.
 use mathlib.Core.Path.{◌≡◌}
 use mathlib.Core.Bool.{true}
 use Prim.Native.Nat.{◌+◌, ◌<◌, ◌≤◌}

@@ -1,4 +1,4 @@
--- The rank in closed form: rank_of, which counts, is rankBy, which divides. Assumes nothing.
+-- The rank in closed form: rank_of, which counts, is rank_by, which divides. Assumes nothing.
 use Rattle.std.specs.Prelude.{◌≡◌, refl, Bool, true, false, cond, List, [], ◌∷◌, ℕ, zero, suc, ◌+◌, ◌*◌, ◌-◌, ◌/◌, ◌%◌, ◌<◌, T, eqb, ℤ, pos, negsuc, get_or}
 use Rattle.std.proofs.Common.{ap, ap₂, sym, ◌∙◌, arith, eqb→eq}
 use Rattle.std.proofs.Math.Pow.{field, mod-mod-pow}

@@ -1,3 +1,4 @@
+-- `rows::class_index` meets its contract. Assumes nothing.
 use mathlib.Core.Path.{sym, ap, ◌∙◌}
 use native.Mathlib.Omega.{arith}
 use Rattle.laws.specs.Laws.Tests.{true_is}

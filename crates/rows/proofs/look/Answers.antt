@@ -1,3 +1,4 @@
+-- `rows::look` meets its contract: a row by its number, or the number of a row. Assumes nothing.
 use mathlib.Core.Path.{◌≡◌, sym, ap, ◌∙◌}
 use Prim.Native.Nat.{ℕ}
 use lib.ListN.{get_or}

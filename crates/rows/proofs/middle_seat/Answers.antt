@@ -1,3 +1,4 @@
+-- `rows::middle_seat` meets its contract. Assumes nothing.
 use mathlib.Core.Path.{sym, subst}
 use Prim.Native.Nat.{ℕ, ◌<◌, ◌≤◌}
 use Rattle.rows.specs.Laws.Seats.{middle_used, middle_unused}

@@ -1,3 +1,4 @@
+-- `rows::mixed_index` meets its contract. Assumes nothing.
 use mathlib.Core.Path.{sym, ap, ◌∙◌}
 use Rattle.rows.specs.Table.{position_of, class_index_of, middle_seat, mixed_index_of}
 use Rattle.rows.specs.Laws.Seats.{seat-fits}

@@ -1,3 +1,4 @@
+-- `rows::no_later` meets its contract: packed ranks are below 16, so the bound accepts them. Assumes nothing.
 use mathlib.Core.Path.{ap, ◌∙◌}
 use Rattle.rank.specs.Vector.{unpack}
 use Rattle.rank.specs.Answers.{held_of}

@@ -1,3 +1,4 @@
+-- `rows::place_of` meets its contract: of the rows from lo on, up to hi, one is w if any row is. Assumes nothing.
 use mathlib.Core.Path.{◌≡◌, sym, ap, ap₂, subst, ◌∙◌}
 use mathlib.Core.Bool.{Bool}
 use mathlib.Core.List.{List}

@@ -1,3 +1,4 @@
+-- `rows::row` meets its contract: past the table there is nothing. Assumes nothing.
 use mathlib.Core.Path.{sym}
 use native.Mathlib.Omega.{arith}
 use lib.ListN.{get_or-eq_default}

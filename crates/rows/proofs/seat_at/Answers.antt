@@ -1,3 +1,4 @@
+-- `rows::seat_at` meets its contract. Assumes nothing.
 use mathlib.Core.Path.{sym}
 use Rattle.rows.specs.Laws.Seats.{seat-row, seat-none}
 use Rattle.rows.proofs.seat_at.Goals as goal

@@ -1,3 +1,4 @@
+-- The columns of the way back are those of the definition.
 use Rattle.trellis.specs.Laws.Code.{back_columns}
 use Rattle.trellis.proofs.back.Goals as goal
 

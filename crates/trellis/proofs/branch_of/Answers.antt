@@ -1,3 +1,4 @@
+-- The branch at the high half of the byte, where it has the byte.
 use Prim.Native.Nat.{◌/◌}
 use native.Mathlib.Omega.{arith}
 use Rattle.trellis.proofs.Ways.{pass-outside, pass-found, pass-none}

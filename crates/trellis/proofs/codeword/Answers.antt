@@ -1,3 +1,4 @@
+-- The columns of the code are those of the definition.
 use Rattle.trellis.specs.Code.{columns}
 use Rattle.trellis.proofs.codeword.Goals as goal
 

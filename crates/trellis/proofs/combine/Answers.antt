@@ -1,3 +1,4 @@
+-- From the last column down: the answer so far is the word of the columns from `j` on, at the bits of `x` from `j` on.
 use native.Mathlib.Omega.{arith}
 use Rattle.trellis.proofs.Columns.{word_set, word_clear}
 use Rattle.trellis.proofs.combine.Goals as goal

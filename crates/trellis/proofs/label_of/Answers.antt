@@ -1,3 +1,4 @@
+-- The label that the columns of the way back give, where its codeword is the word.
 use Rattle.trellis.proofs.Ways.{label-found, label_lost}
 use Rattle.trellis.proofs.label_of.Goals as goal
 

@@ -1,3 +1,4 @@
+-- The middle byte of state 0 with the bits of the set's first byte turned; past the table it is 0.
 use native.Mathlib.Omega.{arith}
 use mathlib.Core.Path.{sym}
 use Rattle.laws.specs.Words.{tab}

@@ -1,3 +1,4 @@
+-- The first bytes of the sets, added to the middle bytes of state 0.
 use mathlib.Core.Path.{◌∙◌}
 use Rattle.laws.specs.Words.{tab}
 use Rattle.trellis.specs.Tables.{middles}

@@ -1,3 +1,4 @@
+-- The states of the branches out of state 0, and the state's own share, added up; past the table it is 0.
 use native.Mathlib.Omega.{arith}
 use mathlib.Core.Path.{sym}
 use Rattle.trellis.specs.Tables.{nexts}

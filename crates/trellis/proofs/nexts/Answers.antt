@@ -1,3 +1,4 @@
+-- The states of the first eight branches out of state 0, added to those of all sixteen.
 use mathlib.Core.Path.{◌∙◌}
 use Rattle.trellis.specs.Tables.{nexts}
 use Rattle.trellis.proofs.Rows.{zero_nexts, zero_first, first_nexts_lem}

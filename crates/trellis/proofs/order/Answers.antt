@@ -1,3 +1,4 @@
+-- The table is trio order, computed from the octads.
 use native.Mathlib.Omega.{arith}
 use mathlib.Core.Path.{sym}
 use lib.ListN.{get_or-eq_default}

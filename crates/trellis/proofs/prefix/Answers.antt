@@ -1,3 +1,4 @@
+-- The byte is read from the pairs of prefixes; past the table it is 0.
 use native.Mathlib.Omega.{arith}
 use mathlib.Core.Path.{◌∙◌, sym, ap}
 use mathlib.Core.List.{List, []}

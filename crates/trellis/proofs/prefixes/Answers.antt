@@ -1,3 +1,4 @@
+-- `trellis::prefixes` meets its contract: the constant is the list of pairs. Assumes nothing.
 use mathlib.Core.Path.{refl}
 use Rattle.laws.specs.Words.{tab}
 use Rattle.trellis.specs.Tables.{prefixes}

@@ -1,3 +1,4 @@
+-- The state and the bit that the way back finds, where they have the byte.
 use native.Mathlib.Omega.{arith}
 use Prim.Native.Nat.{◌/◌, ◌%◌}
 use Rattle.trellis.proofs.Ways.{open-found, open_none}

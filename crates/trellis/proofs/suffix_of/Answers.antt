@@ -1,3 +1,4 @@
+-- One of the two suffix bytes of the state, or neither.
 use native.Mathlib.Omega.{arith}
 use Rattle.trellis.proofs.Ways.{close-outside, close-found, close-none}
 use Rattle.trellis.proofs.suffix_of.Goals as goal

@@ -1,3 +1,4 @@
+-- The invariant: the first i sums are made.
 use native.Mathlib.Omega.{arith}
 use Rattle.laws.specs.Laws.Filled.{fill_all}
 use Rattle.trellis.specs.Laws.Rows.{sums_of}

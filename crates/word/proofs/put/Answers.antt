@@ -1,3 +1,4 @@
+-- `put`: two numbers with no bit in common, joined by `|`, are their sum. Assumes nothing.
 use mathlib.Core.Path.{◌∙◌}
 use Prim.Native.Nat.{ℕ, ◌+◌, ◌*◌, ◌^◌, ◌<◌}
 use native.Mathlib.Nat.{add_comm, mul_comm}

@@ -1,3 +1,4 @@
+-- `rank::Bound::contains`. Assumes nothing.
 use mathlib.Core.Path.{refl, sym, ◌∙◌}
 use Rattle.rank.specs.Answers.{held_of}
 use Rattle.rank.proofs.Bound.contains.Goals as goal

@@ -1,3 +1,4 @@
+-- `join`: the test says that the fields fit. Assumes nothing.
 use mathlib.Core.Path.{sym}
 use Rattle.word.specs.Word.{join_of}
 use Rattle.word.proofs.Fields.join.Goals as goal
