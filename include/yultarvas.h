@@ -1,6 +1,6 @@
 /* Yultarvas from C: words, points and samples of motor current traces. These are the calls of the static
  * library libyultarvas.a, every function of which is proved against its contract. `bash tools/native.sh
- * yultarvas` builds it for the machine that it stands on.
+ * yultarvas` builds it, for x86-64 Linux.
  *
  * Answers. Each call answers YULTARVAS_OK or the number of the refusal, and on a refusal writes nothing.
  * Where more than one number would fit, the first of those that stand behind 'Refused:' is answered. The
@@ -18,10 +18,10 @@
  *
  * Stack. yultarvas_encode, yultarvas_encode_with, yultarvas_encode_at_scale, the same three of the even
  * profile (yultarvas_even_encode, yultarvas_even_encode_with, yultarvas_even_encode_at_scale) and
- * yultarvas_write_page take up to 121 KB of stack (120,736 bytes on aarch64), the other calls up to 20 KB. No
+ * yultarvas_write_page take up to 146 KB of stack (145,080 bytes on x86-64), the other calls up to 20 KB. No
  * theorem bounds the stack: tools/stack.sh measures it. Have YULTARVAS_STACK bytes left.
  *
- * Memory. Code and constants take 80 KB on x86-64 (tools/rom.sh measures them), and nothing of the library
+ * Memory. Code and constants take 91 KB on x86-64 (tools/rom.sh measures them), and nothing of the library
  * can be written.
  *
  * Doubles. The contracts are over IEEE 754 doubles, rounded to nearest with ties to even, subnormal numbers
