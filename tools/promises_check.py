@@ -11,7 +11,7 @@ status 1, or prints how much it looked at and ends with status 0. What it takes 
   CRATE/LABEL elsewhere      an error where CRATE is a crate: it does not say where the edit stands
   word/specs/Laws            a file or folder below crates/, with or without .antt or .rt
   (Laws/Path, Code)          in brackets: the same below CRATE/specs of the file named before, or of the
-                             section's line 'Files below CRATE/specs'
+                             section's line 'Files below CRATE/specs'; a file of proofs is named whole
   docs/.., tools/.., ..      a path from the root of the repository
   `name` .. (FILE, ..)       the name is declared in one of the files, or in src/ of their crates
   `name`                     with no file behind it in its item: declared somewhere in crates/
@@ -136,7 +136,7 @@ def short_paths(text, last):
         if parts[0] in TOP:
             found.append(word)
         elif parts[0] in CRATES and len(parts) > 1 and parts[1] in FOLDERS:
-            last = '/'.join(parts[:2])
+            last = last if last and parts[1] == 'proofs' else '/'.join(parts[:2])
             found.append(word)
         elif short and last and (parts[0][0].isupper() or parts[0] == 'src'):
             found.append((last.split('/')[0] if parts[0] == 'src' else last) + '/' + word)
