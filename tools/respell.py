@@ -81,6 +81,8 @@ def turned(path, text, names):
 
 
 def main():
+    if sys.argv[1:] not in ([], ["--check"]):
+        sys.exit(__doc__)
     names, check = table(), "--check" in sys.argv[1:]
     for path in files():
         with open(path, encoding="utf-8") as f:

@@ -91,6 +91,7 @@ pub fn word_line(e: Encoded) -> Reply
     Reply { length, bytes }
 }
 
+#[tactic(auto, using(std::proofs::Common::ne_eqb), unfolding(crate::specs::Answers::code_line))]
 fn code_line(c: Code) -> Reply
     ensures { (result ≡ in_line (code_line c)) × (result.length ≤ 336) }
 {

@@ -1,5 +1,5 @@
 -- The exact value of a double. A finite double is a whole number of units of 2 ^ -1074, the least positive double: so many units, with a sign.
--- Which doubles are finite is said by `finite` of lib.Ieee.Scale. Definitions only.
+-- Which doubles are finite is said by `finite` of Float.Ieee.Scale, in the library. Definitions only.
 use Rattle.std.specs.Prelude.{ℕ, suc, ◌+◌, ◌-◌, ◌*◌, ◌^◌, Bool, false, cond, pos, negsuc}
 use lib.Ieee.{Float, nan, inf, fin}
 

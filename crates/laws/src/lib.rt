@@ -1,2 +1,2 @@
-// No code: the laws that more than one crate cites, in specs/.
+// No code: the laws that more than one crate cites, in specs/ and proofs/.
 #![tactic(auto)]

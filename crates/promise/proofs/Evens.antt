@@ -18,7 +18,7 @@ use Rattle.encoder.specs.declared.Code.{Code}
 use Rattle.encoder.specs.Encode.{number_at, encode_at_over, encode_at_scale, number_of, encode_over}
 use Rattle.encoder.specs.Numbers.{at-number, at-refused, number_is, is_refused}
 use Rattle.demands.specs.Promised.{Even, Coded}
-use Rattle.demands.specs.Codes.{even_at_scale_lem, even-samples}
+use Rattle.demands.proofs.Codes.{even_at_scale_lem, even-samples}
 use Rattle.demands.specs.Demand3.{nearest-even_at_scale}
 use Rattle.demands.specs.Agrees.{even_agrees}
 use Rattle.page.specs.declared.PageRead.{PageRead}

@@ -31,7 +31,7 @@ use Rattle.encoder.specs.declared.Code.{Code}
 use Rattle.encoder.specs.Encode.{empty_code, number_at, encode_at_scale, number_of, encode_with}
 use Rattle.encoder.specs.Numbers.{at-number, at-refused, number_is, is_refused}
 use Rattle.demands.specs.Promised.{Coded}
-use Rattle.demands.specs.Codes.{at_scale_lem, samples}
+use Rattle.demands.proofs.Codes.{at_scale_lem, samples}
 use Rattle.demands.specs.Demand3.{nearest-at_scale}
 use Rattle.page.specs.declared.Parsed.{Parsed}
 use Rattle.page.specs.declared.PageRead.{PageRead}

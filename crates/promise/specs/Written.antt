@@ -16,7 +16,7 @@ use Rattle.writer.specs.Writer.{scale_of, written_of}
 use Rattle.writer.specs.WriterRule.{block-accepted, good_num}
 use Rattle.writer.specs.Laws.Scale.{scale-exactly}
 use Rattle.demands.specs.Promised.{Coded, Returns}
-use Rattle.demands.specs.Codes.{at_scale_lem}
+use Rattle.demands.proofs.Codes.{at_scale_lem}
 use Rattle.demands.specs.Demand3.{nearest-at_scale}
 use Rattle.promise.specs.Demands.{NearestBy, block_of, block_code}
 

@@ -24,10 +24,6 @@ pub square_most : (y : ℤ) → nat_abs y ≤ 10 → square y ≤ 100
 square_most (pos n) h = mul-le-mul h h
 square_most (negsuc n) h = mul-le-mul h h
 
-pub small_fits : (y : ℤ) → nat_abs y ≤ 10 → SFits w32 y
-small_fits (pos n) h = record { sfits = omega arith }
-small_fits (negsuc n) h = record { sfits = omega arith }
-
 pub pos-fits : (n : ℕ) → n < 2 ^ 31 → SFits w32 (pos n)
 pos-fits n h = record { sfits = omega arith }
 

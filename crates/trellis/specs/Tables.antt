@@ -1,5 +1,5 @@
 -- The trellis as tables, one row for each state. A reader need not believe them: the laws of Path,
--- StateBytes and States leave no other. Assumes nothing.
+-- StateBytes and States (proofs/) leave no other. Assumes nothing.
 use Rattle.std.specs.Prelude.{List, [], ◌∷◌, ◌++◌, ℕ}
 
 -- two prefix bytes for each state at cut 8

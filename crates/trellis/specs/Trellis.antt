@@ -65,7 +65,7 @@ b2_of x = x / 128 % 16
 abbrev pub b3_of : ℕ → ℕ
 b3_of x = x / 2048 % 2
 
--- the state at cut 16 of the codeword with the label x; at cut 8 it is s8Of x
+-- the state at cut 16 of the codeword with the label x; at cut 8 it is s8_of x
 abbrev pub s16_of : ℕ → ℕ
 s16_of x = next_of (s8_of x) (b2_of x)
 

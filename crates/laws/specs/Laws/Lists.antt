@@ -59,7 +59,7 @@ pub sets-append : (A : Type 0) (a b l : List A) (i : ℕ) → sets l i (a ++ b) 
 sets-append A [] b l i = rw add-zero
 sets-append A (x ∷ a) b l i = rw (add-suc, ← suc-add) (sets-append A a b (set l i x) (suc i))
 
--- ---- one list after another, past the first; in the first it is List·getD-append
+-- ---- one list after another, past the first; in the first it is get_or-append of the library
 pub append_past : (A : Type 0) (d : A) (u v : List A) (j : ℕ) → length u ≤ j → get_or (u ++ v) j d ≡ get_or v (j - length u) d
 append_past A d u v j h = ap (λ (n : ℕ). get_or (u ++ v) n d) back ∙ get_or-append-add u v (j - length u) d
   where

@@ -1,4 +1,4 @@
--- Tests: joined tests, what a computed Bool says, a test at every number below n, and a choice by a test. `T b` (lib.Dec) holds exactly
+-- Tests: joined tests, what a computed Bool says, a test at every number below n, and a choice by a test. `T b` (of the library) holds exactly
 -- where b is true. Assumes nothing.
 use Rattle.std.specs.Prelude.{◌≡◌, refl, Bool, true, false, cond, ◌&&◌, ◌||◌, ◌⊎◌, ℕ, zero, suc, ◌<◌, T, eqb}
 use Rattle.std.proofs.Common.{sym, subst, inl, inr, not-suc-le-zero, le_of_suc-le-suc}

@@ -1,4 +1,4 @@
--- Exclusive-or regrouped: what lib.Bits leaves out. Assumes nothing.
+-- Exclusive-or regrouped: what the library leaves out. Assumes nothing.
 use Rattle.std.specs.Prelude.{◌≡◌, refl, ℕ, zero, suc, ◌+◌, ◌*◌, ◌/◌, ◌%◌, ◌<◌}
 use Rattle.std.proofs.Common.{◌∙◌, sym, ap, ap₂, mul-zero, arith}
 use Rattle.std.proofs.Math.Arith.{bin_ind, digits_div, digits_mod}

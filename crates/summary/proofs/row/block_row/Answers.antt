@@ -15,7 +15,8 @@ use Rattle.tetra.specs.Tetra.{point_of}
 use Rattle.tetra.specs.Demand2.{coordinate-small}
 use Rattle.summary.specs.Summary.{larger, smaller, taken, row_of, block_row}
 use Rattle.summary.specs.Laws.Rows.{block-sum}
-use Rattle.summary.proofs.Blocks.{small_fits, square_is, square_most, pos-fits, norm_front, norm-next, taken_next}
+use Rattle.page.proofs.Counting.{small-fits}
+use Rattle.summary.proofs.Blocks.{square_is, square_most, pos-fits, norm_front, norm-next, taken_next}
 use Rattle.summary.proofs.row.block_row.Goals as goal
 
 -- the coordinate at j, its square, and the sum before j
@@ -23,7 +24,7 @@ coordinate : (w j : ℕ) (p : List ℤ) → p ≡ point_of w → j < 24 → nat_
 coordinate w j p e h = rw e (coordinate-small w j h)
 
 back : (y : ℤ) → nat_abs y ≤ 10 → to_z w32 (of_z w32 y) ≡ y
-back y h = to_z-of_z (small_fits y h)
+back y h = to_z-of_z (small-fits y h)
 
 square-fits : (y : ℤ) → nat_abs y ≤ 10 → SFits w32 (to_z w32 (of_z w32 y) *ℤ to_z w32 (of_z w32 y))
 square-fits y h = rw (back y h, square_is y) (pos-fits (square y) (omega (arith, square_most y h)))

@@ -15,7 +15,7 @@ use Rattle.nearest.specs.OnPoint.{origin}
 use Rattle.members.proofs.Members.{has_word, has_word-even, is_even}
 use Rattle.encoder.specs.Encode.{number_at, encode_at_over, encode_at_scale, number_of, encode_over, encode_with}
 use Rattle.demands.specs.Promised.{Even, Coded}
-use Rattle.demands.specs.Laws.Coded.{at_scale_over, samples_over}
+use Rattle.demands.proofs.Coded.{at_scale_over, samples_over}
 
 -- ---- the full coder
 zero_word : HasWord origin

@@ -1,0 +1,3 @@
+-- theorems that rest on what a code promises
+pub mod Coded
+pub mod Codes
