@@ -1,5 +1,5 @@
 -- THE EVEN PROFILE'S RULE: which words, points and pages it accepts, and that it answers these as the full coder does; what it answers to the
--- others. Of its samples demands/specs/Codes, Demand3 and Agrees speak. Assumes nothing.
+-- others. Of its samples demands/proofs/Codes, specs/Demand3 and specs/Agrees speak. Assumes nothing.
 use Rattle.std.specs.Prelude.{◌≡◌, refl, ◌⊎◌, ◌↔◌, Bool, true, false, cond, List, ℕ, ◌*◌, ◌%◌, ◌^◌, ◌<◌, T, ℤ, pos, length}
 use Rattle.std.proofs.Math.Path.{ap}
 use Rattle.std.proofs.Common.{sym, subst, ◌∙◌, inl, inr, zero-lt-suc, arith, eq-eqb, ne_eqb}
