@@ -1,5 +1,5 @@
 -- `rank::value_at`: the table that the code holds passes the listing rule at each of the 32. Assumes nothing.
-use Rattle.std.proofs.Common.{rules, ◌≡◌, ◌∙◌, ◌<◌, ℕ, ◌+◌, ◌*◌, List, [], ◌∷◌, slice_index_or, w8, w32, ℤ, pos, negsuc, to_z, of_z}
+use Rattle.std.proofs.Common.{rules, ◌≡◌, ◌∙◌, ◌<◌, ℕ, ◌+◌, ◌*◌, List, slice_index_or, w8, w32, ℤ, pos, to_z, of_z}
 use Rattle.std.specs.Prelude.{T}
 use Rattle.std.proofs.Math.Facts.{to_z-of_z}
 use mir.Val.{SFits}
@@ -19,16 +19,8 @@ rule : (l : List ℤ) (o rho : ℕ) → o < 4 → rho < 8
 rule l o rho ho hr t =
     eq_z→eq (entry l o rho) (val_of o rho) (below2 4 8 (λ (a b : ℕ). eq_z (entry l a b) (val_of a b)) t o rho ho hr)
 
--- the table that the code holds
-abbrev values : List ℤ
-values =
-    pos 0 ∷ pos 4 ∷ negsuc 3 ∷ pos 8 ∷ negsuc 7 ∷ pos 12 ∷ negsuc 11 ∷ pos 16 ∷
-    pos 1 ∷ negsuc 2 ∷ pos 5 ∷ negsuc 6 ∷ pos 9 ∷ negsuc 10 ∷ pos 13 ∷ negsuc 14 ∷
-    pos 2 ∷ negsuc 1 ∷ pos 6 ∷ negsuc 5 ∷ pos 10 ∷ negsuc 9 ∷ pos 14 ∷ negsuc 13 ∷
-    negsuc 0 ∷ pos 3 ∷ negsuc 4 ∷ pos 7 ∷ negsuc 8 ∷ pos 11 ∷ negsuc 12 ∷ pos 15 ∷ []
-
 pub returns : goal.returns
 unfolding val_of
 returns c =
     let f : SFits w32 c.wide.result = search rules in
-    to_z-of_z f ∙ c.wide.ensures ∙ rule values c.args.o c.args.rho c.requires.0 c.requires.1 tt
+    to_z-of_z f ∙ rw c.wide.ensures (search (rule, c.requires.0, c.requires.1))
