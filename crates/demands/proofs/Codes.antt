@@ -1,7 +1,7 @@
 -- DEMAND 2, for samples: the code of an accepted call is a word below 2 ^ 47 and a point, the word decodes to the point and the point encodes to
 -- the word (`Coded`). So it is at a scale of the caller's, and at the scale that the samples give, the zero vector among them. An array of
 -- samples holds 24 doubles, which is what `length` and `AllFit` say; number 0 is what `encode_at_scale` and `encode_with` answer where they
--- accept. It is proved once over the parities searched (Laws/Coded): the full coder and the even profile are two instances. Assumes nothing.
+-- accept. It is proved once over the parities searched (Coded): the full coder and the even profile are two instances. Assumes nothing.
 use Rattle.std.specs.Prelude.{◌≡◌, List, ℕ, T, length, Float}
 use Rattle.std.proofs.Common.{subst}
 use Rattle.std.specs.Float.{binary64}
