@@ -1,7 +1,9 @@
 -- The numbers by which a call refuses bad input: document 01, "Numbers that answer a bad call", with what the requests of document 02 add:
 -- 2026-01 to 2, 3 and 9; 2026-02 to 5, which it splits, and 10 to 12; 2026-04 adds to 9, and 14; 2026-06 13. A call that is accepted
 -- carries 0. Assumes nothing.
-use Rattle.std.specs.Prelude.{◌≡◌, refl, List, [], ◌∷◌, ℕ}
+use Rattle.std.specs.Prelude.{◌≡◌, refl, List, [], ◌∷◌, ℕ, Result, Ok, Err}
+use Rattle.refusal.specs.declared.Refusal.{Refusal}
+use Rattle.refusal.specs.declared.Refusal.TheVariants.{NotFinite, TooLarge, NoScale, TooFar, MixedParity, TooWide, OutOfRange, NoRoom, NoPage, NoCodeword, Outside, WrongSum, AllOdd, Disagrees}
 
 -- a sample is a NaN or infinite
 abbrev pub not_finite : ℕ
@@ -68,3 +70,30 @@ numbers =
 -- they are the numbers of the documents, ascending, so no two reasons share one
 pub as_listed : numbers ≡ 1 ∷ 2 ∷ 3 ∷ 4 ∷ 5 ∷ 6 ∷ 7 ∷ 8 ∷ 9 ∷ 10 ∷ 11 ∷ 12 ∷ 13 ∷ 14 ∷ []
 as_listed = refl
+
+-- ---- the number of each reason
+abbrev pub number_of : Refusal → ℕ
+number_of NotFinite = not_finite
+number_of TooLarge = too_large
+number_of NoScale = no_scale
+number_of TooFar = too_far
+number_of MixedParity = mixed_parity
+number_of TooWide = too_wide
+number_of OutOfRange = out_of_range
+number_of NoRoom = no_room
+number_of NoPage = no_page
+number_of NoCodeword = no_codeword
+number_of (Outside section) = outside
+number_of WrongSum = wrong_sum
+number_of AllOdd = all_odd
+number_of Disagrees = disagrees
+
+-- the section that a reason is about, counted from 1; 0 where it is about none
+abbrev pub section_of : Refusal → ℕ
+section_of (Outside section) = section
+section_of r = 0
+
+-- the number of an answer: 0 where the call is accepted
+abbrev pub number_in : {A : Type 0} → Result A Refusal → ℕ
+number_in (Ok x) = 0
+number_in (Err r) = number_of r

@@ -1,9 +1,66 @@
-// The numbers by which a call refuses bad input, each with its name: the list of document 01 and, from 10 on, of document 02. Every crate that refuses takes them from here, so
-// that a number stands in one place of the code and, in specs/Refusal, in one place of the definitions. A call that is accepted carries 0.
+// The reasons for which a call refuses bad input, each with its number: the list of document 01 and, from 10 on, of document 02. Every crate that refuses takes them from here, so
+// that a reason stands in one place of the code and, in specs/Refusal, in one place of the definitions. A call that is accepted carries 0.
 #![tactic(auto)]
 
 ghost use Rattle.std.specs.Prelude.{◌≡◌};
-ghost use Rattle.refusal.specs.Refusal.{numbers};
+ghost use Rattle.refusal.specs.Refusal.{numbers, number_of};
+
+// Why a call is refused.
+#[derive(Clone, Copy, Debug, PartialEq, Eq)]
+pub enum Refusal {
+    // 1: a sample is a NaN or infinite.
+    NotFinite,
+    // 2: a sample's magnitude exceeds 1e290; one of a page that is written, 32767.
+    TooLarge,
+    // 3: the scale is not a finite number above 0; a page's num is not from 1 to 65535.
+    NoScale,
+    // 4: a quotient of a sample by the scale exceeds 1e6 in magnitude.
+    TooFar,
+    // 5: a point's coordinates are not all even or all odd.
+    MixedParity,
+    // 6: a field does not fit its width.
+    TooWide,
+    // 7: a residue, a rank or a setting of the shrinks is out of its range, or a number has no root.
+    OutOfRange,
+    // 8: a lent buffer is too short.
+    NoRoom,
+    // 9: a text is no page or no trace; there are too many blocks for a page.
+    NoPage,
+    // 10: a point's bits are no codeword.
+    NoCodeword,
+    // 11: a section of a point is outside its bound: the lowest one, from 1 to 3.
+    Outside { section: u32 },
+    // 12: a point's sum of k is even where it has to be odd, or odd where even.
+    WrongSum,
+    // 13: a word's p is 1, or a point's coordinates are all odd, where the even profile is asked.
+    AllOdd,
+    // 14: a summary and its page disagree.
+    Disagrees,
+}
+
+impl Refusal {
+    // The documents' number.
+    pub fn number(self) -> u32
+        ensures { result ≡ number_of self }
+    {
+        match self {
+            Refusal::NotFinite => 1,
+            Refusal::TooLarge => 2,
+            Refusal::NoScale => 3,
+            Refusal::TooFar => 4,
+            Refusal::MixedParity => 5,
+            Refusal::TooWide => 6,
+            Refusal::OutOfRange => 7,
+            Refusal::NoRoom => 8,
+            Refusal::NoPage => 9,
+            Refusal::NoCodeword => 10,
+            Refusal::Outside { .. } => 11,
+            Refusal::WrongSum => 12,
+            Refusal::AllOdd => 13,
+            Refusal::Disagrees => 14,
+        }
+    }
+}
 
 // A sample is a NaN or infinite.
 pub const NOT_FINITE: u32 = 1;

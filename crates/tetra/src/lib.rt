@@ -246,8 +246,7 @@ fn word_by(p: u32, x: u32, r: u32, i1: u16, i2: u16, i3: u16) -> u64
         i3,
         gain: 0,
     };
-    let j = f.join();
-    j.word
+    f.join().unwrap_or(0)
 }
 
 // The word that decodes to a point given in natural order, with gain 0; or why there is none. The tests stand in the order in which the reasons

@@ -1,12 +1,14 @@
 -- Laws of the word: the test and the facts agree, split and join undo each other, and what is left of a word without its gain. Assumes nothing.
-use Rattle.std.specs.Prelude.{◌≡◌, true, ℕ, ◌+◌, ◌*◌, ◌/◌, ◌%◌, ◌^◌, ◌<◌}
+use Rattle.std.specs.Prelude.{◌≡◌, refl, true, ℕ, ◌+◌, ◌*◌, ◌/◌, ◌%◌, ◌^◌, ◌<◌, Result, Ok, Err}
+use Rattle.std.specs.Result.{result_unwrap_or}
 use Rattle.std.proofs.Common.{ap, sym, ◌∙◌, add_comm, mod-lt, mod-eq_of_lt, arith, ltb-true, lt-ltb, pow_pos}
 use Rattle.std.proofs.Math.Bool.{and-eq-true_iff}
 use Rattle.std.proofs.Math.Arith.{digits_div, digits_mod}
 use Rattle.std.proofs.lemmas.Nat.{mod-pow-add}
 use Rattle.laws.specs.Laws.Tests.{is_true, is_false}
+use Rattle.refusal.specs.declared.Refusal.{Refusal}
 use Rattle.word.specs.declared.Fields.{Fields}
-use Rattle.word.specs.Word.{field_at, fields_of, fits, Narrow, word_of, join_of}
+use Rattle.word.specs.Word.{field_at, fields_of, fits, Narrow, word_of, joined_by, join_of}
 
 -- ---- the test and the facts
 pub fits-narrow : (f : Fields) → fits f ≡ true → Narrow f
@@ -153,3 +155,8 @@ no_gain_split w = omega (arith, join-split w, low_step w 1 47)
 
 pub no_gain-lt : (f : Fields) → Narrow f → f.gain ≡ 0 → word_of f < 2 ^ 47
 no_gain-lt f n e = omega arith
+
+-- the word of an answer, 0 where there is none
+pub word_or_zero : (r : Result ℕ Refusal) → result_unwrap_or r 0 ≡ (joined_by r).word
+word_or_zero (Ok w) = refl
+word_or_zero (Err e) = refl

@@ -1,8 +1,8 @@
 -- The 48-bit word: where each of its ten fields stands. Assumes nothing.
-use Rattle.std.specs.Prelude.{Bool, cond, ◌&&◌, ℕ, ◌+◌, ◌*◌, ◌/◌, ◌%◌, ◌^◌, ◌<◌, ltb}
-use Rattle.refusal.specs.Refusal.{too_wide}
+use Rattle.std.specs.Prelude.{Bool, cond, ◌&&◌, ℕ, ◌+◌, ◌*◌, ◌/◌, ◌%◌, ◌^◌, ◌<◌, ltb, Result, Ok, Err}
+use Rattle.refusal.specs.Refusal.{too_wide, number_of}
 use Rattle.word.specs.declared.Fields.{Fields}
-use Rattle.word.specs.declared.Joined.{Joined}
+use Rattle.refusal.specs.declared.Refusal.{Refusal}
 
 -- the field of w that has its low bit at lo and is width bits wide
 unfoldable pub field_at : ℕ → ℕ → ℕ → ℕ
@@ -48,6 +48,15 @@ abbrev pub word_of : Fields → ℕ
 word_of f =
     f.p * 2 ^ 0 + f.r * 2 ^ 1 + f.s8 * 2 ^ 2 + f.b1 * 2 ^ 8 + f.i1 * 2 ^ 9 + f.b2 * 2 ^ 20 + f.i2 * 2 ^ 24 + f.b3 * 2 ^ 35
     + f.i3 * 2 ^ 36 + f.gain * 2 ^ 47
+
+-- an answer of `join` in document 01's terms: number 0 and the word, or the number of a refusal and word 0
+pub record Joined : Type 0 where
+  pub number : ℕ
+  pub word : ℕ
+
+abbrev pub joined_by : Result ℕ Refusal → Joined
+joined_by (Ok w) = record { number = 0; word = w }
+joined_by (Err r) = record { number = number_of r; word = 0 }
 
 -- what `join` answers: the word, or the refusal and word 0 where a field does not fit
 unfoldable pub join_of : Fields → Joined

@@ -2,7 +2,9 @@
 #![tactic(auto)]
 
 ghost use Rattle.std.specs.Prelude.{◌≡◌, ◌+◌, ◌*◌, ◌^◌, ◌<◌, ◌≤◌};
-ghost use Rattle.word.specs.Word.{field_at, fields_of, fits, Narrow, word_of, join_of};
+ghost use Rattle.word.specs.Word.{field_at, fields_of, fits, Narrow, word_of, joined_by, join_of};
+
+use refusal::Refusal;
 
 // Where a field stands: its low bit and its width.
 #[derive(Clone, Copy)]
@@ -46,13 +48,6 @@ pub struct Fields {
     pub gain: u8, // carried by the word, never decoded
 }
 
-// What a join answers: number 0 and the word, or number 6 and word 0.
-#[derive(Clone, Copy)]
-pub struct Joined {
-    pub number: u32,
-    pub word: u64,
-}
-
 impl Fields {
     // A word's fields. Bits 48 and up are ignored.
     pub fn split(word: u64) -> Fields
@@ -73,19 +68,13 @@ impl Fields {
     }
 
     // The word of the fields. A field that does not fit its width is refused: cut to its width, it would name another point.
-    pub fn join(self) -> Joined
-        ensures { result ≡ join_of self }
+    pub fn join(self) -> Result<u64, Refusal>
+        ensures { joined_by result ≡ join_of self }
     {
         if fits(self) {
-            Joined {
-                number: 0,
-                word: put_all(self),
-            }
+            Ok(put_all(self))
         } else {
-            Joined {
-                number: refusal::TOO_WIDE,
-                word: 0,
-            }
+            Err(Refusal::TooWide)
         }
     }
 }

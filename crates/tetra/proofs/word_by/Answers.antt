@@ -3,9 +3,9 @@ use mathlib.Core.Path.{◌≡◌, ap, ◌∙◌}
 use Prim.Native.Nat.{ℕ, ◌/◌}
 use lib.Bits.{and_mask, bit_and}
 use Rattle.word.specs.Word.{join_of}
-use Rattle.word.specs.Laws.{join-accepts}
+use Rattle.word.specs.Laws.{join-accepts, word_or_zero}
 use Rattle.word.specs.declared.Fields.{Fields}
-use Rattle.word.specs.declared.Joined.{Joined}
+use Rattle.word.specs.Word.{Joined}
 use Rattle.tetra.specs.Encode.{fields_by}
 use Rattle.tetra.proofs.word_by.Goals as goal
 
@@ -30,6 +30,7 @@ made p x r i1 i2 i3 = rw (and_mask x 6, and_mask (x / 64) 1, and_mask (x / 128) 
 pub returns : goal.returns
 returns c =
     let a = c.args in
-    ap (λ (r : Joined). r.word)
-    (c.join-j.ensures ∙ ap join_of (made a.p a.x a.r a.i1 a.i2 a.i3)
+    c.unwrap_or.ensures ∙ word_or_zero c.join.result
+    ∙ ap (λ (r : Joined). r.word)
+    (c.join.ensures ∙ ap join_of (made a.p a.x a.r a.i1 a.i2 a.i3)
     ∙ join-accepts (fields_by a.p a.x a.r a.i1 a.i2 a.i3) c.requires)

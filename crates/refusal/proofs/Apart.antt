@@ -1,0 +1,43 @@
+-- No two reasons are told alike: the number, and the section that a reason is about, decide it. Assumes nothing.
+use Rattle.std.specs.Prelude.{◌≡◌, refl, ℕ, cond, eqb}
+use Rattle.std.proofs.Common.{sym, ◌∙◌, ap₂}
+use Rattle.refusal.specs.declared.Refusal.{Refusal}
+use Rattle.refusal.specs.declared.Refusal.TheVariants.{NotFinite, TooLarge, NoScale, TooFar, MixedParity, TooWide, OutOfRange, NoRoom, NoPage, NoCodeword, Outside, WrongSum, AllOdd, Disagrees}
+use Rattle.refusal.specs.Refusal.{number_of, section_of}
+
+-- the reason of a number and a section
+reason_of : ℕ → ℕ → Refusal
+reason_of n section =
+    cond (eqb n 1) NotFinite
+    (cond (eqb n 2) TooLarge
+    (cond (eqb n 3) NoScale
+    (cond (eqb n 4) TooFar
+    (cond (eqb n 5) MixedParity
+    (cond (eqb n 6) TooWide
+    (cond (eqb n 7) OutOfRange
+    (cond (eqb n 8) NoRoom
+    (cond (eqb n 9) NoPage
+    (cond (eqb n 10) NoCodeword
+    (cond (eqb n 11) (Outside section)
+    (cond (eqb n 12) WrongSum
+    (cond (eqb n 13) AllOdd Disagrees))))))))))))
+
+back : (r : Refusal) → reason_of (number_of r) (section_of r) ≡ r
+unfolding reason_of
+back NotFinite = refl
+back TooLarge = refl
+back NoScale = refl
+back TooFar = refl
+back MixedParity = refl
+back TooWide = refl
+back OutOfRange = refl
+back NoRoom = refl
+back NoPage = refl
+back NoCodeword = refl
+back (Outside section) = refl
+back WrongSum = refl
+back AllOdd = refl
+back Disagrees = refl
+
+pub told_apart : (r s : Refusal) → number_of r ≡ number_of s → section_of r ≡ section_of s → r ≡ s
+told_apart r s n i = sym (back r) ∙ ap₂ reason_of n i ∙ back s

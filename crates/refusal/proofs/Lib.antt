@@ -1,0 +1,2 @@
+-- no two reasons are told alike
+pub mod Apart
