@@ -1,3 +1,2 @@
 -- laws that only the proofs of this crate cite
-pub mod Rows
-pub mod Paths
+pub mod Steps

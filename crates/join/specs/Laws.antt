@@ -10,9 +10,11 @@ use Rattle.trellis.specs.Laws.Path.{next-entry-lt}
 use Rattle.trellis.proofs.Rows.{next_by}
 use Rattle.trellis.specs.Laws.Rows.{next-read}
 use Rattle.search.specs.declared.Way.{Way}
+use Rattle.join.specs.Inner.{InRange}
 use Rattle.search.specs.Tables.{tables}
 use Rattle.search.specs.Laws.Tables.{entry_at}
-use Rattle.search.specs.Join.{Sides, ent_at, mid_at, last_at, way_at, row_to, join_to}
+use Rattle.search.specs.declared.Sides.{Sides}
+use Rattle.search.specs.Join.{ent_at, mid_at, last_at, way_at, row_to, join_to}
 
 -- ---- the paths
 -- the middle entry: the entries of eight states in a row follow each other
@@ -52,9 +54,6 @@ pub last-lt : (p i1 t : ℕ) → t < 32 → last_at tables p i1 t < 128
 last-lt p i1 t h = omega (arith, next-entry-lt (i1 % 64 * 16 + t / 2))
 
 -- ---- the best path of a join
-abbrev pub InRange : Way → Type 0
-InRange w = (w.i1 < 128) × ((w.i2 < 256) × (w.i3 < 128))
-
 in-cond : (b : Bool) (x y : Way) → InRange x → InRange y → InRange (cond b x y)
 in-cond true x y h g = h
 in-cond false x y h g = g

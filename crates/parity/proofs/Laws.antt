@@ -15,7 +15,8 @@ use Rattle.search.specs.declared.Way.{Way}
 use Rattle.search.specs.declared.Bounds.{Bounds}
 use Rattle.search.specs.Tables.{tables}
 use Rattle.search.specs.Entries.{Rule}
-use Rattle.search.specs.Join.{Sides, ent_at, no_entry, join, all_exact}
+use Rattle.search.specs.declared.Sides.{Sides}
+use Rattle.search.specs.Join.{ent_at, no_entry, join, all_exact}
 use Rattle.search.specs.Parity.{Targets, Seed, solved1, solved2, solved3, starts, lower, seeded, seed_by, seed_to, bounds_to, closed, closing, parity}
 use Rattle.join.specs.Laws.{in_join}
 use Rattle.resolve.specs.Inner.Flat.{closed_with}

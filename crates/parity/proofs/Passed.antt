@@ -11,7 +11,8 @@ use Rattle.search.specs.declared.Entry.{Entry}
 use Rattle.search.specs.declared.Bounds.{Bounds}
 use Rattle.search.specs.declared.Winner.{Winner}
 use Rattle.search.specs.Tables.{tables}
-use Rattle.search.specs.Join.{Sides, join}
+use Rattle.search.specs.declared.Sides.{Sides}
+use Rattle.search.specs.Join.{join}
 use Rattle.search.specs.Parity.{fixed, lower, bounds_to, winner_of}
 use Rattle.search.specs.Block.{rule_of}
 use Rattle.resolve.specs.Inner.Flat.{Search, end_with, mid_with, closed_with}

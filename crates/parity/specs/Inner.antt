@@ -8,7 +8,8 @@ use Rattle.search.specs.declared.Bounds.{Bounds}
 use Rattle.search.specs.declared.Winner.{Winner}
 use Rattle.search.specs.Tables.{tables}
 use Rattle.search.specs.Entries.{end_start, mid_start}
-use Rattle.search.specs.Join.{Sides, join, all_exact}
+use Rattle.search.specs.declared.Sides.{Sides}
+use Rattle.search.specs.Join.{join, all_exact}
 use Rattle.search.specs.Parity.{fixed, lower, bounds_to, winner_of}
 use Rattle.resolve.specs.Inner.Flat.{closed_with}
 use Rattle.parity.specs.declared.Head.{Head}

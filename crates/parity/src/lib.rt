@@ -19,7 +19,7 @@ ghost use Rattle.solve.specs.Inner.Flat.{solve_in, pair_in};
 ghost use Rattle.resolve.specs.Inner.Flat.{end_with, mid_with, in_a_row, start_with, mid_start_with};
 ghost use Rattle.parity.specs.Inner.{head_of, pass_of, mid_starts, last_start};
 
-use search::{Entry, Winner};
+use search::{Entry, Sides, Winner};
 
 // The best path of a join, and whether all three of its entries are exact.
 #[derive(Clone, Copy)]
@@ -109,33 +109,24 @@ fn mid_starts(
 
 // ---- the seed joins
 // The best path, and whether it is all exact.
-fn lead(p: u32, e1: [Entry; 128], e2: [Entry; 256], e3: [Entry; 128]) -> Head
-    ensures { result ≡ head_of (p % 2) (record { e1 = e1; e2 = e2; e3 = e3 }) }
+fn lead(p: u32, sides: &Sides) -> Head
+    ensures { result ≡ head_of (p % 2) sides.now }
 {
-    let w = join::join(p, e1, e2, e3);
-    let i1 = w.i1;
-    let i2 = w.i2;
-    let i3 = w.i3;
-    let x1 = e1[i1];
-    let x2 = e2[i2];
-    let x3 = e3[i3];
+    let w = join::join(p, sides);
     Head {
         cost: w.cost,
-        i1,
-        i2,
-        i3,
-        done: x1.exact & (x2.exact & x3.exact),
+        i1: w.i1,
+        i2: w.i2,
+        i3: w.i3,
+        done: sides.e1[w.i1].exact & (sides.e2[w.i2].exact & sides.e3[w.i3].exact),
     }
 }
 
 // A path that is all exact is the last one.
-fn next(h: Head, p: u32, e1: [Entry; 128], e2: [Entry; 256], e3: [Entry; 128]) -> Head
-    ensures { result ≡ cond h.done h (head_of (p % 2) (record { e1 = e1; e2 = e2; e3 = e3 })) }
+fn next(h: Head, p: u32, sides: &Sides) -> Head
+    ensures { result ≡ cond h.done h (head_of (p % 2) sides.now) }
 {
-    if h.done {
-        return h;
-    }
-    lead(p, e1, e2, e3)
+    if h.done { h } else { lead(p, sides) }
 }
 
 // The best cost known: lowered to that of a path that is all exact.
@@ -152,27 +143,20 @@ fn known(h: Head, u: f64) -> f64
 }
 
 // ---- the winner of a parity: the best path through the entries
-fn winner(p: u32, e1: [Entry; 128], e2: [Entry; 256], e3: [Entry; 128]) -> Winner
-    ensures { result ≡ def.winner_of (p % 2) (record { e1 = e1; e2 = e2; e3 = e3 }) (join tables (p % 2) (record { e1 = e1; e2 = e2; e3 = e3 })) }
+fn winner(p: u32, sides: &Sides) -> Winner
+    ensures { result ≡ def.winner_of (p % 2) sides.now (join tables (p % 2) sides.now) }
 {
-    let w = join::join(p, e1, e2, e3);
-    let i1 = w.i1;
-    let i2 = w.i2;
-    let i3 = w.i3;
-    let s1 = e1[i1];
-    let s2 = e2[i2];
-    let s3 = e3[i3];
-    let found = float::is_finite(w.cost);
+    let w = join::join(p, sides);
     Winner {
-        found,
+        found: float::is_finite(w.cost),
         cost: w.cost,
         p: p % 2,
-        i1,
-        i2,
-        i3,
-        s1,
-        s2,
-        s3,
+        i1: w.i1,
+        i2: w.i2,
+        i3: w.i3,
+        s1: sides.e1[w.i1],
+        s2: sides.e2[w.i2],
+        s3: sides.e3[w.i3],
     }
 }
 
@@ -200,9 +184,7 @@ fn pass(
     v3: &[bool; 128],
     fall1: [Entry; 128],
     fall3: [Entry; 128],
-    e1: [Entry; 128],
-    e2: [Entry; 256],
-    e3: [Entry; 128],
+    sides: &Sides,
     u0: f64,
     setting: u32,
 ) -> Winner
@@ -212,30 +194,33 @@ fn pass(
         (mid_with tables (solve_in g2.now d2.now w2.now k2.now o2.now v2.now)
         middle_sets (rule_of setting).mids)
         (end_with tables (solve_in g3.now d3.now w3.now k3.now o3.now v3.now)
-        (pairs_of suffixes) fall3 (rule_of setting).ends) (p % 2) (record { sides = record { e1 = e1; e2 = e2; e3 = e3 }; u = u0 }) }
+        (pairs_of suffixes) fall3 (rule_of setting).ends) (p % 2) (record { sides = sides.now; u = u0 }) }
 {
     let pre = trellis::prefixes();
     let sets = trellis::middle_sets();
     let suf = trellis::suffixes();
     let n = ends_of(setting);
     let m = mids_of(setting);
-    let h = lead(p, e1, e2, e3);
-    let a1 = resolve::seed_end(g1, d1, w1, k1, o1, v1, &pre, fall1, e1, h.i1, n);
-    let a2 = resolve::seed_mid(g2, d2, w2, k2, o2, v2, &sets, e2, h.i2, m);
-    let a3 = resolve::seed_end(g3, d3, w3, k3, o3, v3, &suf, fall3, e3, h.i3, n);
+    let h = lead(p, sides);
+    let a = Sides {
+        e1: resolve::seed_end(g1, d1, w1, k1, o1, v1, &pre, fall1, sides.e1, h.i1, n),
+        e2: resolve::seed_mid(g2, d2, w2, k2, o2, v2, &sets, sides.e2, h.i2, m),
+        e3: resolve::seed_end(g3, d3, w3, k3, o3, v3, &suf, fall3, sides.e3, h.i3, n),
+    };
     let x = known(h, u0);
-    let l = next(h, p, a1, a2, a3);
-    let c1 = resolve::seed_end(g1, d1, w1, k1, o1, v1, &pre, fall1, a1, l.i1, n);
-    let c2 = resolve::seed_mid(g2, d2, w2, k2, o2, v2, &sets, a2, l.i2, m);
-    let c3 = resolve::seed_end(g3, d3, w3, k3, o3, v3, &suf, fall3, a3, l.i3, n);
-    let b = join::bounds(p, c1, c2, c3, known(l, x));
-    let b1 = b.b1;
-    let b2 = b.b2;
-    let b3 = b.b3;
-    let f1 = resolve::resolve_ends(g1, d1, w1, k1, o1, v1, &pre, fall1, c1, b1, b.u, n);
-    let f2 = resolve::resolve_mids(g2, d2, w2, k2, o2, v2, &sets, c2, b2, b.u, m);
-    let f3 = resolve::resolve_ends(g3, d3, w3, k3, o3, v3, &suf, fall3, c3, b3, b.u, n);
-    winner(p, f1, f2, f3)
+    let l = next(h, p, &a);
+    let c = Sides {
+        e1: resolve::seed_end(g1, d1, w1, k1, o1, v1, &pre, fall1, a.e1, l.i1, n),
+        e2: resolve::seed_mid(g2, d2, w2, k2, o2, v2, &sets, a.e2, l.i2, m),
+        e3: resolve::seed_end(g3, d3, w3, k3, o3, v3, &suf, fall3, a.e3, l.i3, n),
+    };
+    let b = join::bounds(p, &c, known(l, x));
+    let left = Sides {
+        e1: resolve::resolve_ends(g1, d1, w1, k1, o1, v1, &pre, fall1, c.e1, b.b1, b.u, n),
+        e2: resolve::resolve_mids(g2, d2, w2, k2, o2, v2, &sets, c.e2, b.b2, b.u, m),
+        e3: resolve::resolve_ends(g3, d3, w3, k3, o3, v3, &suf, fall3, c.e3, b.b3, b.u, n),
+    };
+    winner(p, &left)
 }
 
 // The last section, and the pass over all three.
@@ -278,9 +263,10 @@ fn last(
     let suf = trellis::suffixes();
     let fall3 = fallback_entries::fallbacks(1, p, t3);
     let e3 = end_starts(&g3, &d3, &w3, &k3, &o3, &v3, &suf, fall3);
+    let sides = Sides { e1, e2, e3 };
     pass(
         p, g1, d1, w1, k1, o1, v1, g2, d2, w2, k2, o2, v2, &g3, &d3, &w3, &k3, &o3, &v3, fall1,
-        fall3, e1, e2, e3, u0, setting,
+        fall3, &sides, u0, setting,
     )
 }
 

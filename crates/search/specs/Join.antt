@@ -6,14 +6,9 @@ use Rattle.std.specs.Float.{nan, binary64}
 use Rattle.std.specs.Float.Ieee.{add, lt, le}
 use Rattle.search.specs.declared.Entry.{Entry}
 use Rattle.search.specs.declared.Way.{Way}
+use Rattle.search.specs.declared.Sides.{Sides}
 use Rattle.search.specs.Solve.{infinity}
 use Rattle.search.specs.Tables.{Tables}
-
--- the entries of the three sections: an end entry is 64 r + state, a middle one twice its place plus the middle class
-pub record Sides : Type 0 where
-  pub e1 : List Entry
-  pub e2 : List Entry
-  pub e3 : List Entry
 
 abbrev pub no_entry : Entry
 no_entry = record { value = nan; exact = false; byte = 0; key = 0 }

@@ -15,7 +15,8 @@ use Rattle.search.specs.declared.Winner.{Winner}
 use Rattle.search.specs.Solve.{infinity}
 use Rattle.search.specs.Tables.{Tables}
 use Rattle.search.specs.Entries.{Rule, infeasible, end_resolve, mid_resolve, end_start, mid_start}
-use Rattle.search.specs.Join.{Sides, ent_at, way_at, join, all_exact}
+use Rattle.search.specs.declared.Sides.{Sides}
+use Rattle.search.specs.Join.{ent_at, way_at, join, all_exact}
 
 -- the targets of the three sections, in trio order
 pub record Targets : Type 0 where

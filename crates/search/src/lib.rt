@@ -69,6 +69,15 @@ pub struct Entry {
     pub key: u32,
 }
 
+// The entries of the three sections, in the order of the trio: entry 64 r + state of an end, and of the middle entry twice its place plus the
+// middle class.
+#[derive(Clone, Copy)]
+pub struct Sides {
+    pub e1: [Entry; 128],
+    pub e2: [Entry; 256],
+    pub e3: [Entry; 128],
+}
+
 // The best path of a join: its cost, and the entries it runs through. The middle one is twice its place plus the middle class.
 #[derive(Clone, Copy)]
 pub struct Way {

@@ -8,7 +8,8 @@ use Prim.Native.Nat.{ℕ, zero, suc, ◌≤◌, ◌<◌}
 use Rattle.std.proofs.Math.Decide.{ℕ_discrete}
 use Rattle.std.specs.Float.Ieee.{lt, le}
 use Rattle.search.specs.Tables.{Tables}
-use Rattle.search.specs.Join.{Sides, keep, way_at, cost_at, ent_at, row_to, join_to}
+use Rattle.search.specs.declared.Sides.{Sides}
+use Rattle.search.specs.Join.{keep, way_at, cost_at, ent_at, row_to, join_to}
 use Rattle.search.specs.declared.Way.{Way}
 use Rattle.search.specs.Solve.{infinity}
 use Rattle.nearest.specs.Laws.Under.{Num, Under, under-lt, under_not-lt, under-le}

@@ -14,7 +14,8 @@ use Rattle.search.specs.Entries.{Rule, end_resolve, end_start, mid_start}
 use Rattle.search.specs.Parity.{Targets, Seed, closed, starts, solved1, solved2, solved3, fixed, seeded, lower}
 use Rattle.search.specs.Parity.{seed_by, seed_to, seed_of, bounds_to, closing, last_sides}
 use Rattle.search.specs.declared.Entry.{Entry}
-use Rattle.search.specs.Join.{no_entry, Sides, ent_at, all_exact, join_to}
+use Rattle.search.specs.declared.Sides.{Sides}
+use Rattle.search.specs.Join.{no_entry, ent_at, all_exact, join_to}
 use Rattle.search.specs.declared.Way.{Way}
 use Rattle.search.specs.declared.Bounds.{Bounds}
 use Rattle.nearest.specs.Laws.Entries.{EndByte, EndFacts, MidFacts, Final, Sound, Mine, resolve_final, start_sound}

@@ -10,7 +10,8 @@ use Rattle.search.specs.Tables.{Tables}
 use Rattle.search.specs.Entries.{section_at}
 use Rattle.search.specs.Parity.{Targets, winner_of}
 use Rattle.search.specs.declared.Entry.{Entry}
-use Rattle.search.specs.Join.{Sides, ent_at, way_at, cost_at, mid_at, last_at, join_to}
+use Rattle.search.specs.declared.Sides.{Sides}
+use Rattle.search.specs.Join.{ent_at, way_at, cost_at, mid_at, last_at, join_to}
 use Rattle.search.specs.declared.Way.{Way}
 use Rattle.search.specs.declared.Winner.{Winner}
 use Rattle.search.specs.Solve.{infinity}

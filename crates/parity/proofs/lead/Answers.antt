@@ -5,6 +5,4 @@ use Rattle.parity.proofs.lead.Goals as goal
 
 pub returns : goal.returns
 unfolding head_of
-returns c =
-    let s = c.args in
-    ap (head_by (record { e1 = s.e1; e2 = s.e2; e3 = s.e3 })) c.join-w.ensures.0
+returns c = ap (head_by c.args.sides.now) c.join-w.ensures.0

@@ -7,11 +7,12 @@ use Rattle.parity.proofs.pass.Goals as goal
 pub returns : goal.returns
 returns c =
     let s = c.args in
+    let e = s.sides.now in
     passed (solve_in s.g1.now s.d1.now s.w1.now s.k1.now s.o1.now s.v1.now)
     (solve_in s.g2.now s.d2.now s.w2.now s.k2.now s.o2.now s.v2.now)
     (solve_in s.g3.now s.d3.now s.w3.now s.k3.now s.o3.now s.v3.now)
-    s.fall1 s.fall3 s.setting (s.p % 2) s.e1 s.e2 s.e3 s.u0
+    s.fall1 s.fall3 s.setting (s.p % 2) e.e1 e.e2 e.e3 s.u0
     c.prefixes-pre.ensures c.middle_sets-sets.ensures c.suffixes-suf.ensures c.ends_of-n.ensures c.mids_of-m.ensures
-    c.lead-h.ensures c.seed_end-a1.ensures c.seed_mid-a2.ensures c.seed_end-a3.ensures c.known-x.ensures
-    c.next-l.ensures c.seed_end-c1.ensures c.seed_mid-c2.ensures c.seed_end-c3.ensures c.known.ensures
-    c.bounds-b.ensures c.resolve_ends-f1.ensures c.resolve_mids-f2.ensures c.resolve_ends-f3.ensures c.winner.ensures
+    c.lead-h.ensures c.seed_end.ensures c.seed_mid.ensures c.seed_end-2.ensures c.known-x.ensures
+    c.next-l.ensures c.seed_end-3.ensures c.seed_mid-2.ensures c.seed_end-4.ensures c.known.ensures
+    c.bounds-b.ensures c.resolve_ends.ensures c.resolve_mids.ensures c.resolve_ends-2.ensures c.winner.ensures
