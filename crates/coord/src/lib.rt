@@ -27,7 +27,9 @@ struct Slot {
     d: f64,
 }
 
-// The records of a section as flat rows.
+// The records of a section as flat rows. Record i is at shrink i / 16, coordinate i / 2 % 8, pattern bit i % 2; slot f of record i stands at
+// 5 * i + f in `dist`, `weight` and `rank`; `odd` holds the parity of its rounding, `up` whether its target lies above that. The search reads
+// the rows in place: they are lent, and no row is copied.
 #[derive(Clone, Copy)]
 pub struct Rows {
     pub regret: [f64; 128],

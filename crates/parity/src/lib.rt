@@ -1,6 +1,5 @@
 // One block parity, and the best of both at one scale: `solve_parity` and the loop of `encode_at_scale` of the Rust's encoder.rs. The rows of a
-// section (crate coord) are lent as six arrays: its regrets g, distances d, weights w, ranks k, the parities o of its roundings, and whether each
-// target lies above its rounding, v.
+// section (crate coord) are made once for a parity and lent.
 // The idea: every entry starts from its bases, which are cheap. At most two seed joins look for a real path;
 // one pass over all paths says which entries may lie on a cheaper one, and only those are resolved; then the
 // last join. Parity 1 has to beat the cost that parity 0 has found. docs/ALGORITHM.md says why nothing is
@@ -19,6 +18,7 @@ ghost use Rattle.solve.specs.Inner.Flat.{solve_in, pair_in};
 ghost use Rattle.resolve.specs.Inner.Flat.{end_with, mid_with, in_a_row, start_with, mid_start_with};
 ghost use Rattle.parity.specs.Inner.{head_of, pass_of, mid_starts, last_start};
 
+use coord::Rows;
 use search::{Entry, Sides, Winner};
 
 // The best path of a join, and whether all three of its entries are exact.
@@ -66,44 +66,25 @@ fn in_a_row(bytes: &[[u8; 2]; 64]) -> [u8; 128]
     out
 }
 
-fn end_starts(
-    g: &[f64; 128],
-    d: &[f64; 640],
-    w: &[u16; 640],
-    k: &[u8; 640],
-    o: &[u8; 128],
-    v: &[bool; 128],
-    bytes: &[[u8; 2]; 64],
-    fall: [Entry; 128],
-) -> [Entry; 128]
+fn end_starts(rows: &Rows, bytes: &[[u8; 2]; 64], fall: [Entry; 128]) -> [Entry; 128]
     ensures { result ≡ tab (start_with
-        (tab (λ (j : ℕ). pair_in g.now d.now w.now k.now o.now v.now
-        (get_or (in_a_row bytes.now) j 0) tables.class0 tables.class1) 128)
+        (tab (λ (j : ℕ). pair_in rows.now (get_or (in_a_row bytes.now) j 0) tables.class0 tables.class1) 128)
         bytes.now fall) 128 }
 {
     let b0 = resolve::class_bound(0);
     let b1 = resolve::class_bound(1);
     let row = in_a_row(bytes);
-    let q = solve::pairs(g, d, w, k, o, v, &row, b0, b1);
+    let q = solve::pairs(rows, &row, b0, b1);
     resolve::ends(q, bytes, fall)
 }
 
-fn mid_starts(
-    g: &[f64; 128],
-    d: &[f64; 640],
-    w: &[u16; 640],
-    k: &[u8; 640],
-    o: &[u8; 128],
-    v: &[bool; 128],
-    sets: &[u8; 128],
-) -> [Entry; 256]
+fn mid_starts(rows: &Rows, sets: &[u8; 128]) -> [Entry; 256]
     ensures { result ≡ tab (mid_start_with
-        (tab (λ (j : ℕ). pair_in g.now d.now w.now k.now o.now v.now
-        (get_or sets.now j 0) tables.mixed tables.mixed) 128)
+        (tab (λ (j : ℕ). pair_in rows.now (get_or sets.now j 0) tables.mixed tables.mixed) 128)
         sets.now) 256 }
 {
     let b = resolve::mixed_bound();
-    let q = solve::pairs(g, d, w, k, o, v, sets, b, b);
+    let q = solve::pairs(rows, sets, b, b);
     resolve::mids(q, sets)
 }
 
@@ -164,24 +145,9 @@ fn winner(p: u32, sides: &Sides) -> Winner
 // Two seed joins, the second only where the first path is not all exact; the bounds; what they leave, resolved; the best path of that.
 fn pass(
     p: u32,
-    g1: &[f64; 128],
-    d1: &[f64; 640],
-    w1: &[u16; 640],
-    k1: &[u8; 640],
-    o1: &[u8; 128],
-    v1: &[bool; 128],
-    g2: &[f64; 128],
-    d2: &[f64; 640],
-    w2: &[u16; 640],
-    k2: &[u8; 640],
-    o2: &[u8; 128],
-    v2: &[bool; 128],
-    g3: &[f64; 128],
-    d3: &[f64; 640],
-    w3: &[u16; 640],
-    k3: &[u8; 640],
-    o3: &[u8; 128],
-    v3: &[bool; 128],
+    rows1: &Rows,
+    rows2: &Rows,
+    rows3: &Rows,
     fall1: [Entry; 128],
     fall3: [Entry; 128],
     sides: &Sides,
@@ -189,11 +155,11 @@ fn pass(
     setting: u32,
 ) -> Winner
     ensures { result ≡ pass_of
-        (end_with tables (solve_in g1.now d1.now w1.now k1.now o1.now v1.now)
+        (end_with tables (solve_in rows1.now)
         (pairs_of prefixes) fall1 (rule_of setting).ends)
-        (mid_with tables (solve_in g2.now d2.now w2.now k2.now o2.now v2.now)
+        (mid_with tables (solve_in rows2.now)
         middle_sets (rule_of setting).mids)
-        (end_with tables (solve_in g3.now d3.now w3.now k3.now o3.now v3.now)
+        (end_with tables (solve_in rows3.now)
         (pairs_of suffixes) fall3 (rule_of setting).ends) (p % 2) (record { sides = sides.now; u = u0 }) }
 {
     let pre = trellis::prefixes();
@@ -203,22 +169,22 @@ fn pass(
     let m = mids_of(setting);
     let h = lead(p, sides);
     let a = Sides {
-        e1: resolve::seed_end(g1, d1, w1, k1, o1, v1, &pre, fall1, sides.e1, h.i1, n),
-        e2: resolve::seed_mid(g2, d2, w2, k2, o2, v2, &sets, sides.e2, h.i2, m),
-        e3: resolve::seed_end(g3, d3, w3, k3, o3, v3, &suf, fall3, sides.e3, h.i3, n),
+        e1: resolve::seed_end(rows1, &pre, fall1, sides.e1, h.i1, n),
+        e2: resolve::seed_mid(rows2, &sets, sides.e2, h.i2, m),
+        e3: resolve::seed_end(rows3, &suf, fall3, sides.e3, h.i3, n),
     };
     let x = known(h, u0);
     let l = next(h, p, &a);
     let c = Sides {
-        e1: resolve::seed_end(g1, d1, w1, k1, o1, v1, &pre, fall1, a.e1, l.i1, n),
-        e2: resolve::seed_mid(g2, d2, w2, k2, o2, v2, &sets, a.e2, l.i2, m),
-        e3: resolve::seed_end(g3, d3, w3, k3, o3, v3, &suf, fall3, a.e3, l.i3, n),
+        e1: resolve::seed_end(rows1, &pre, fall1, a.e1, l.i1, n),
+        e2: resolve::seed_mid(rows2, &sets, a.e2, l.i2, m),
+        e3: resolve::seed_end(rows3, &suf, fall3, a.e3, l.i3, n),
     };
     let b = join::bounds(p, &c, known(l, x));
     let left = Sides {
-        e1: resolve::resolve_ends(g1, d1, w1, k1, o1, v1, &pre, fall1, c.e1, b.b1, b.u, n),
-        e2: resolve::resolve_mids(g2, d2, w2, k2, o2, v2, &sets, c.e2, b.b2, b.u, m),
-        e3: resolve::resolve_ends(g3, d3, w3, k3, o3, v3, &suf, fall3, c.e3, b.b3, b.u, n),
+        e1: resolve::resolve_ends(rows1, &pre, fall1, c.e1, b.b1, b.u, n),
+        e2: resolve::resolve_mids(rows2, &sets, c.e2, b.b2, b.u, m),
+        e3: resolve::resolve_ends(rows3, &suf, fall3, c.e3, b.b3, b.u, n),
     };
     winner(p, &left)
 }
@@ -226,59 +192,35 @@ fn pass(
 // The last section, and the pass over all three.
 fn last(
     p: u32,
-    g1: &[f64; 128],
-    d1: &[f64; 640],
-    w1: &[u16; 640],
-    k1: &[u8; 640],
-    o1: &[u8; 128],
-    v1: &[bool; 128],
+    rows1: &Rows,
     fall1: [Entry; 128],
     e1: [Entry; 128],
-    g2: &[f64; 128],
-    d2: &[f64; 640],
-    w2: &[u16; 640],
-    k2: &[u8; 640],
-    o2: &[u8; 128],
-    v2: &[bool; 128],
+    rows2: &Rows,
     e2: [Entry; 256],
     t3: [f64; 8],
     u0: f64,
     setting: u32,
 ) -> Winner
     ensures { result ≡ pass_of
-        (end_with tables (solve_in g1.now d1.now w1.now k1.now o1.now v1.now)
+        (end_with tables (solve_in rows1.now)
         (pairs_of prefixes) fall1 (rule_of setting).ends)
-        (mid_with tables (solve_in g2.now d2.now w2.now k2.now o2.now v2.now)
+        (mid_with tables (solve_in rows2.now)
         middle_sets (rule_of setting).mids)
         (def.solved3 tables (rule_of setting) t3 (p % 2)) (p % 2)
         (record { sides = record { e1 = e1; e2 = e2; e3 = last_start t3 (p % 2) }; u = u0 }) }
 {
-    let r = coord::rows_of(t3, p);
-    let g3 = r.regret;
-    let d3 = r.dist;
-    let w3 = r.weight;
-    let k3 = r.rank;
-    let o3 = r.odd;
-    let v3 = r.up;
+    let rows3 = coord::rows_of(t3, p);
     let suf = trellis::suffixes();
     let fall3 = fallback_entries::fallbacks(1, p, t3);
-    let e3 = end_starts(&g3, &d3, &w3, &k3, &o3, &v3, &suf, fall3);
+    let e3 = end_starts(&rows3, &suf, fall3);
     let sides = Sides { e1, e2, e3 };
-    pass(
-        p, g1, d1, w1, k1, o1, v1, g2, d2, w2, k2, o2, v2, &g3, &d3, &w3, &k3, &o3, &v3, fall1,
-        fall3, &sides, u0, setting,
-    )
+    pass(p, rows1, rows2, &rows3, fall1, fall3, &sides, u0, setting)
 }
 
 // The middle section, and what follows it.
 fn middle(
     p: u32,
-    g1: &[f64; 128],
-    d1: &[f64; 640],
-    w1: &[u16; 640],
-    k1: &[u8; 640],
-    o1: &[u8; 128],
-    v1: &[bool; 128],
+    rows1: &Rows,
     fall1: [Entry; 128],
     e1: [Entry; 128],
     t2: [f64; 8],
@@ -287,40 +229,26 @@ fn middle(
     setting: u32,
 ) -> Winner
     ensures { result ≡ pass_of
-        (end_with tables (solve_in g1.now d1.now w1.now k1.now o1.now v1.now)
+        (end_with tables (solve_in rows1.now)
         (pairs_of prefixes) fall1 (rule_of setting).ends)
         (def.solved2 tables (rule_of setting) t2 (p % 2)) (def.solved3 tables (rule_of setting) t3 (p % 2)) (p % 2)
         (record { sides = record { e1 = e1; e2 = mid_starts t2 (p % 2); e3 = last_start t3 (p % 2) }; u = u0 }) }
 {
-    let r = coord::rows_of(t2, p);
-    let g2 = r.regret;
-    let d2 = r.dist;
-    let w2 = r.weight;
-    let k2 = r.rank;
-    let o2 = r.odd;
-    let v2 = r.up;
+    let rows2 = coord::rows_of(t2, p);
     let sets = trellis::middle_sets();
-    let e2 = mid_starts(&g2, &d2, &w2, &k2, &o2, &v2, &sets);
-    last(
-        p, g1, d1, w1, k1, o1, v1, fall1, e1, &g2, &d2, &w2, &k2, &o2, &v2, e2, t3, u0, setting,
-    )
+    let e2 = mid_starts(&rows2, &sets);
+    last(p, rows1, fall1, e1, &rows2, e2, t3, u0, setting)
 }
 
 // The winner of the parity p modulo 2 at the targets of the three sections; u0 is the best cost of the parities before.
 pub fn parity(p: u32, t1: [f64; 8], t2: [f64; 8], t3: [f64; 8], u0: f64, setting: u32) -> Winner
     ensures { result ≡ def.parity tables (rule_of setting) (record { t1 = t1; t2 = t2; t3 = t3 }) (p % 2) u0 }
 {
-    let r = coord::rows_of(t1, p);
-    let g = r.regret;
-    let d = r.dist;
-    let w = r.weight;
-    let k = r.rank;
-    let o = r.odd;
-    let v = r.up;
+    let rows = coord::rows_of(t1, p);
     let pre = trellis::prefixes();
     let fall = fallback_entries::fallbacks(0, p, t1);
-    let e = end_starts(&g, &d, &w, &k, &o, &v, &pre, fall);
-    middle(p, &g, &d, &w, &k, &o, &v, fall, e, t2, t3, u0, setting)
+    let e = end_starts(&rows, &pre, fall);
+    middle(p, &rows, fall, e, t2, t3, u0, setting)
 }
 
 // ---- the parities in turn

@@ -22,6 +22,7 @@ use Rattle.search.specs.Tables.{tables, closed_of}
 use Rattle.search.specs.Entries.{infeasible, better, mid_of, settle}
 use Rattle.search.specs.Join.{ent_at}
 use Rattle.search.specs.Parity.{fixed}
+use Rattle.coord.specs.declared.Rows.{Rows}
 use Rattle.solve.specs.Inner.Flat.{solve_in}
 use Rattle.resolve.specs.Inner.Flat.{Search, mid_by, mid_over, lowered_by, start_over}
 use Rattle.resolve.specs.Laws.{mid_by_lem, start_over_lem}
@@ -107,10 +108,10 @@ module _ (sol : Search) (c d n : ℕ) {b : Closed} {f : Found} (hb : b ≡ table
       (λ (z : Bool). cond z (record { value = (sol c d tables.mixed 8).d; exact = true; byte = c; key = (sol c d tables.mixed 8).key })
       infeasible) m8)
 
-pub solve_eight : (regret dist : List Float) (weight rank odd : List ℕ) (up : List Bool) (c want : ℕ) (bound : Closed) (n : ℕ) → 8 ≤ n
-    → solve_in regret dist weight rank odd up c want bound n ≡ solve_in regret dist weight rank odd up c want bound 8
+pub solve_eight : (rows : Rows) (c want : ℕ) (bound : Closed) (n : ℕ) → 8 ≤ n
+    → solve_in rows c want bound n ≡ solve_in rows c want bound 8
 unfolding solve_in
-solve_eight regret dist weight rank odd up c want bound n h = let q : min n 8 ≡ 8 = omega arith in rw q
+solve_eight rows c want bound n h = let q : min n 8 ≡ 8 = omega arith in rw q
 
 -- ---- one entry of a list: a place past the end changes nothing
 pub past : (e : List Entry) (i : ℕ) (new : Entry) → length e ≤ i → e ≡ fixed e i new

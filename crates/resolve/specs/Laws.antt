@@ -23,7 +23,7 @@ use Rattle.search.specs.Tables.{tables, class_of, end_byte}
 use Rattle.search.specs.Entries.{Rule, infeasible, fallback, better, end_resolve, mid_of, mid_resolve}
 use Rattle.search.specs.Entries.{Start, settle, end_start, mid_start}
 use Rattle.search.specs.Join.{no_entry}
-use Rattle.coord.specs.Inner.Rows.{table_of, regrets_of, dists_of, weights_of, ranks_of, odds_of, ups_of}
+use Rattle.coord.specs.Inner.Rows.{table_of, rows_of}
 use Rattle.solve.specs.declared.Pair.{Pair}
 use Rattle.solve.specs.Inner.Flat.{pair_in}
 use Rattle.solve.specs.Laws.{pair_flat}
@@ -142,12 +142,10 @@ Bases ts p b0 b1 bytes q =
 -- the pairs of crate solve are such
 pub bases : (ts : List Float) (p : ℕ) (b0 b1 : Closed) (bytes : List ℕ)
     → Bases ts p b0 b1 bytes
-    (tab (λ (i : ℕ). pair_in (regrets_of (table_of ts p)) (dists_of (table_of ts p)) (weights_of (table_of ts p)) (ranks_of (table_of ts p))
-    (odds_of (table_of ts p)) (ups_of (table_of ts p)) (get_or bytes i 0) b0 b1) 128)
+    (tab (λ (i : ℕ). pair_in (rows_of (table_of ts p)) (get_or bytes i 0) b0 b1) 128)
 bases ts p b0 b1 bytes k l =
     tab_at Pair (record { even = no_best; odd = no_best })
-    (λ (i : ℕ). pair_in (regrets_of (table_of ts p)) (dists_of (table_of ts p)) (weights_of (table_of ts p)) (ranks_of (table_of ts p))
-    (odds_of (table_of ts p)) (ups_of (table_of ts p)) (get_or bytes i 0) b0 b1) 128 k l
+    (λ (i : ℕ). pair_in (rows_of (table_of ts p)) (get_or bytes i 0) b0 b1) 128 k l
     ∙ pair_flat ts p (get_or bytes k 0) b0 b1
 
 parity_of_lem : (b0 b1 : Closed) (f : ℕ → Candidate) (r : ℕ) → r < 2

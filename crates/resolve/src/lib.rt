@@ -14,6 +14,7 @@ ghost use Rattle.solve.specs.Inner.Flat.{solve_in};
 ghost use Rattle.resolve.specs.Inner.Flat.{better_by, mid_by, end_over, end_with, mid_over, mid_with, closed_with};
 ghost use Rattle.resolve.specs.Inner.Flat.{of_parity, lowered_by, start_over, start_with, base_entry, mid_start_with};
 
+use coord::Rows;
 use rank::Bound;
 use search::{Best, Closed, Entry, Found};
 use solve::Pair;
@@ -186,35 +187,15 @@ fn better(e: Entry, f: Found, c: u8) -> Entry
 }
 
 // The fallback f, then the rule on both bytes of a state.
-fn end_resolve(
-    regret: &[f64; 128],
-    dist: &[f64; 640],
-    weight: &[u16; 640],
-    rank: &[u8; 640],
-    odd: &[u8; 128],
-    up: &[bool; 128],
-    f: Entry,
-    r: usize,
-    c0: u8,
-    c1: u8,
-    n: usize,
-) -> Entry
+fn end_resolve(rows: &Rows, f: Entry, r: usize, c0: u8, c1: u8, n: usize) -> Entry
     requires { r < 2 }
     ensures { result ≡ end_over tables
-        (solve_in regret.now dist.now weight.now rank.now odd.now up.now)
+        (solve_in rows.now)
         f r c0 c1 n }
 {
     let b = class_bound(r);
-    let e = better(
-        f,
-        solve::solve(regret, dist, weight, rank, odd, up, c0, r as u32, b, n),
-        c0,
-    );
-    better(
-        e,
-        solve::solve(regret, dist, weight, rank, odd, up, c1, r as u32, b, n),
-        c1,
-    )
+    let e = better(f, solve::solve(rows, c0, r as u32, b, n), c0);
+    better(e, solve::solve(rows, c1, r as u32, b, n), c1)
 }
 
 // What a search answered, as an entry.
@@ -233,24 +214,14 @@ fn mid_of(f: Found, c: u8) -> Entry
 }
 
 // The rule on one byte, and once more with all eight shrinks where fewer met no member.
-fn mid_resolve(
-    regret: &[f64; 128],
-    dist: &[f64; 640],
-    weight: &[u16; 640],
-    rank: &[u8; 640],
-    odd: &[u8; 128],
-    up: &[bool; 128],
-    c: u8,
-    d: usize,
-    n: usize,
-) -> Entry
+fn mid_resolve(rows: &Rows, c: u8, d: usize, n: usize) -> Entry
     requires { d < 2 }
     ensures { result ≡ mid_over tables
-        (solve_in regret.now dist.now weight.now rank.now odd.now up.now)
+        (solve_in rows.now)
         c d n }
 {
     let b = mixed_bound();
-    let f = solve::solve(regret, dist, weight, rank, odd, up, c, d as u32, b, n);
+    let f = solve::solve(rows, c, d as u32, b, n);
     match f {
         Found::At(d, key) => Entry {
             value: d,
@@ -260,21 +231,7 @@ fn mid_resolve(
         },
         Found::Nothing => {
             if n < search::SHRINKS {
-                return mid_of(
-                    solve::solve(
-                        regret,
-                        dist,
-                        weight,
-                        rank,
-                        odd,
-                        up,
-                        c,
-                        d as u32,
-                        b,
-                        search::SHRINKS,
-                    ),
-                    c,
-                );
+                return mid_of(solve::solve(rows, c, d as u32, b, search::SHRINKS), c);
             }
             infeasible()
         }
@@ -283,12 +240,7 @@ fn mid_resolve(
 
 // An exact entry stays; one whose best path b is under u is resolved; the rest are dropped.
 fn end_closed(
-    regret: &[f64; 128],
-    dist: &[f64; 640],
-    weight: &[u16; 640],
-    rank: &[u8; 640],
-    odd: &[u8; 128],
-    up: &[bool; 128],
+    rows: &Rows,
     f: Entry,
     r: usize,
     c0: u8,
@@ -300,26 +252,21 @@ fn end_closed(
 ) -> Entry
     requires { r < 2 }
     ensures { result ≡ closed e (lt b u) (end_over tables
-        (solve_in regret.now dist.now weight.now rank.now odd.now up.now)
+        (solve_in rows.now)
         f r c0 c1 n) }
 {
     if e.exact {
         return e;
     }
     if b < u {
-        return end_resolve(regret, dist, weight, rank, odd, up, f, r, c0, c1, n);
+        return end_resolve(rows, f, r, c0, c1, n);
     }
     infeasible()
 }
 
 // The same of all entries of an end.
 pub fn resolve_ends(
-    regret: &[f64; 128],
-    dist: &[f64; 640],
-    weight: &[u16; 640],
-    rank: &[u8; 640],
-    odd: &[u8; 128],
-    up: &[bool; 128],
+    rows: &Rows,
     bytes: &[[u8; 2]; 64],
     fall: [Entry; 128],
     e: [Entry; 128],
@@ -328,7 +275,7 @@ pub fn resolve_ends(
     n: usize,
 ) -> [Entry; 128]
     ensures { result ≡ tab (closed_with e b u (end_with tables
-        (solve_in regret.now dist.now weight.now rank.now odd.now up.now)
+        (solve_in rows.now)
         bytes.now fall n)) 128 }
 {
     let none = infeasible();
@@ -338,63 +285,30 @@ pub fn resolve_ends(
         let x = e[i];
         let c0 = bytes[i % 64][0];
         let c1 = bytes[i % 64][1];
-        out[i] = end_closed(
-            regret,
-            dist,
-            weight,
-            rank,
-            odd,
-            up,
-            first,
-            i / 64,
-            c0,
-            c1,
-            x,
-            b[i],
-            u,
-            n,
-        );
+        out[i] = end_closed(rows, first, i / 64, c0, c1, x, b[i], u, n);
     }
     out
 }
 
 // The same of a middle entry m.
-fn mid_closed(
-    regret: &[f64; 128],
-    dist: &[f64; 640],
-    weight: &[u16; 640],
-    rank: &[u8; 640],
-    odd: &[u8; 128],
-    up: &[bool; 128],
-    c: u8,
-    d: usize,
-    m: Entry,
-    b: f64,
-    u: f64,
-    n: usize,
-) -> Entry
+fn mid_closed(rows: &Rows, c: u8, d: usize, m: Entry, b: f64, u: f64, n: usize) -> Entry
     requires { d < 2 }
     ensures { result ≡ closed m (lt b u) (mid_over tables
-        (solve_in regret.now dist.now weight.now rank.now odd.now up.now)
+        (solve_in rows.now)
         c d n) }
 {
     if m.exact {
         return m;
     }
     if b < u {
-        return mid_resolve(regret, dist, weight, rank, odd, up, c, d, n);
+        return mid_resolve(rows, c, d, n);
     }
     infeasible()
 }
 
 // The same of all middle entries.
 pub fn resolve_mids(
-    regret: &[f64; 128],
-    dist: &[f64; 640],
-    weight: &[u16; 640],
-    rank: &[u8; 640],
-    odd: &[u8; 128],
-    up: &[bool; 128],
+    rows: &Rows,
     sets: &[u8; 128],
     e: [Entry; 256],
     b: [f64; 256],
@@ -402,39 +316,21 @@ pub fn resolve_mids(
     n: usize,
 ) -> [Entry; 256]
     ensures { result ≡ tab (closed_with e b u (mid_with tables
-        (solve_in regret.now dist.now weight.now rank.now odd.now up.now)
+        (solve_in rows.now)
         sets.now n)) 256 }
 {
     let none = infeasible();
     let mut out = [none; 256];
     for i in 0..256usize {
         let x = e[i];
-        out[i] = mid_closed(
-            regret,
-            dist,
-            weight,
-            rank,
-            odd,
-            up,
-            sets[i / 2],
-            i % 2,
-            x,
-            b[i],
-            u,
-            n,
-        );
+        out[i] = mid_closed(rows, sets[i / 2], i % 2, x, b[i], u, n);
     }
     out
 }
 
 // One end entry resolved where it is not exact; no entry where i is past the end.
 pub fn seed_end(
-    regret: &[f64; 128],
-    dist: &[f64; 640],
-    weight: &[u16; 640],
-    rank: &[u8; 640],
-    odd: &[u8; 128],
-    up: &[bool; 128],
+    rows: &Rows,
     bytes: &[[u8; 2]; 64],
     fall: [Entry; 128],
     e: [Entry; 128],
@@ -442,7 +338,7 @@ pub fn seed_end(
     n: usize,
 ) -> [Entry; 128]
     ensures { result ≡ fixed e i (end_with tables
-        (solve_in regret.now dist.now weight.now rank.now odd.now up.now)
+        (solve_in rows.now)
         bytes.now fall n i) }
 {
     if i >= 128 {
@@ -456,25 +352,14 @@ pub fn seed_end(
     let c0 = bytes[i % 64][0];
     let c1 = bytes[i % 64][1];
     let mut out = e;
-    out[i] = end_resolve(regret, dist, weight, rank, odd, up, f, i / 64, c0, c1, n);
+    out[i] = end_resolve(rows, f, i / 64, c0, c1, n);
     out
 }
 
 // One middle entry resolved where it is not exact; no entry where m is past the end.
-pub fn seed_mid(
-    regret: &[f64; 128],
-    dist: &[f64; 640],
-    weight: &[u16; 640],
-    rank: &[u8; 640],
-    odd: &[u8; 128],
-    up: &[bool; 128],
-    sets: &[u8; 128],
-    e: [Entry; 256],
-    m: usize,
-    n: usize,
-) -> [Entry; 256]
+pub fn seed_mid(rows: &Rows, sets: &[u8; 128], e: [Entry; 256], m: usize, n: usize) -> [Entry; 256]
     ensures { result ≡ fixed e m (mid_with tables
-        (solve_in regret.now dist.now weight.now rank.now odd.now up.now)
+        (solve_in rows.now)
         sets.now n m) }
 {
     if m >= 256 {
@@ -485,6 +370,6 @@ pub fn seed_mid(
         return e;
     }
     let mut out = e;
-    out[m] = mid_resolve(regret, dist, weight, rank, odd, up, sets[m / 2], m % 2, n);
+    out[m] = mid_resolve(rows, sets[m / 2], m % 2, n);
     out
 }

@@ -21,7 +21,8 @@ use Rattle.search.specs.declared.Top.{Top}
 use Rattle.search.specs.Record.{coord_of, coord_at, no_coord, shrinks, row, bit_at}
 use Rattle.search.specs.Base.{slot_of, worst_to, par_to, now_to, stepped, base_now, base_best}
 use Rattle.search.specs.Solve.{top_to, fix_of, step_of, other_of, move_at, moves_to, layer_of, layers_to, solve}
-use Rattle.coord.specs.Inner.Rows.{coord_in, table_of, regrets_of, dists_of, weights_of, ranks_of, odds_of, ups_of}
+use Rattle.coord.specs.declared.Rows.{Rows}
+use Rattle.coord.specs.Inner.Rows.{coord_in, table_of, regrets_of, dists_of, weights_of, ranks_of, odds_of, ups_of, rows_of}
 use Rattle.solve.specs.Inner.Flat.{place_of, places_of, spot, top_in, regret_at, par_in, toward_in, fix_in, base_in, dist_in, step_in, turn_in}
 use Rattle.solve.specs.Inner.Flat.{second_in, paired_in, moves_in, start_in, layer_in, layers_in, solve_in, stepped_in, base_for, pair_in}
 use Rattle.solve.specs.Inner.{Apart, Flanked}
@@ -37,12 +38,12 @@ apart_more true b t j h = (omega arith, (omega (arith, h.0), λ q. omega (arith,
 apart_more false true t j h = (omega (arith, h.0), (omega arith, λ q. omega (arith, h.0, q)))
 apart_more false false t j h = (omega (arith, h.0), (omega (arith, h.1.0), h.1.1))
 
-pub apart : (regret : List Float) (at : List ℕ) (n : ℕ) → Apart (top_in regret at n) (n + 2)
+pub apart : (rows : Rows) (at : List ℕ) (n : ℕ) → Apart (top_in rows at n) (n + 2)
 unfolding top_in
-apart regret at zero = apart-first (lt (regret_at regret at 0) (regret_at regret at 1))
-apart regret at (suc n) =
-    let h = apart_more (lt (regret_at regret at (top_in regret at n).j0) (regret_at regret at (n + 2)))
-    (lt (regret_at regret at (top_in regret at n).j1) (regret_at regret at (n + 2))) (top_in regret at n) (n + 2) (apart regret at n) in
+apart rows at zero = apart-first (lt (regret_at rows at 0) (regret_at rows at 1))
+apart rows at (suc n) =
+    let h = apart_more (lt (regret_at rows at (top_in rows at n).j0) (regret_at rows at (n + 2)))
+    (lt (regret_at rows at (top_in rows at n).j1) (regret_at rows at (n + 2))) (top_in rows at n) (n + 2) (apart rows at n) in
     (omega (arith, h.0), (omega (arith, h.1.0), h.1.1))
 
 -- the first of them is the coordinate that `base_pair` repairs
@@ -79,30 +80,29 @@ other-lt true i j hi hj = hj
 other-lt false i j hi hj = hi
 
 -- ---- a row of eight records that the flat rows hold at the places `at`
-record RowAt (regret dist : List Float) (weight rank odd : List ℕ) (up : List Bool) (at : List ℕ) (e : List Coord) : Type 0 where
-  pub regret_is : (j : ℕ) → j < 8 → regret_at regret at j ≡ (coord_at e j).regret
-  pub dist_is : (j f : ℕ) → j < 8 → f < 5 → get_or dist (spot at j f) nan ≡ get_or (coord_at e j).d f nan
-  pub weight_is : (j f : ℕ) → j < 8 → f < 5 → get_or weight (spot at j f) 0 ≡ get_or (coord_at e j).w f 0
-  pub rank_is : (j f : ℕ) → j < 8 → f < 5 → get_or rank (spot at j f) 0 ≡ get_or (coord_at e j).rank f 0
-  pub odd_is : (j : ℕ) → j < 8 → get_or odd (get_or at j 0) 0 ≡ mod_z (coord_at e j).k0 2
-  pub up_is : (j : ℕ) → j < 8 → get_or up (get_or at j 0) false ≡ lt_z (pos 0) (coord_at e j).dir
+record RowAt (rows : Rows) (at : List ℕ) (e : List Coord) : Type 0 where
+  pub regret_is : (j : ℕ) → j < 8 → regret_at rows at j ≡ (coord_at e j).regret
+  pub dist_is : (j f : ℕ) → j < 8 → f < 5 → get_or rows.dist (spot at j f) nan ≡ get_or (coord_at e j).d f nan
+  pub weight_is : (j f : ℕ) → j < 8 → f < 5 → get_or rows.weight (spot at j f) 0 ≡ get_or (coord_at e j).w f 0
+  pub rank_is : (j f : ℕ) → j < 8 → f < 5 → get_or rows.rank (spot at j f) 0 ≡ get_or (coord_at e j).rank f 0
+  pub odd_is : (j : ℕ) → j < 8 → get_or rows.odd (get_or at j 0) 0 ≡ mod_z (coord_at e j).k0 2
+  pub up_is : (j : ℕ) → j < 8 → get_or rows.up (get_or at j 0) false ≡ lt_z (pos 0) (coord_at e j).dir
 
-module _ {regret dist : List Float} {weight rank odd : List ℕ} {up : List Bool} {at : List ℕ} {e : List Coord}
-    (h : RowAt regret dist weight rank odd up at e) where
-  top_is : (n : ℕ) → n ≤ 6 → top_in regret at n ≡ top_to e n
+module _ {rows : Rows} {at : List ℕ} {e : List Coord} (h : RowAt rows at e) where
+  top_is : (n : ℕ) → n ≤ 6 → top_in rows at n ≡ top_to e n
   unfolding top_in top_to
   top_is zero l = rw (h.regret_is 0 (omega arith), h.regret_is 1 (omega arith))
   top_is (suc n) l =
-      let a = apart regret at n in
-      rw (h.regret_is (top_in regret at n).j0 (omega (arith, a.0)), h.regret_is (top_in regret at n).j1 (omega (arith, a.1.0)))
+      let a = apart rows at n in
+      rw (h.regret_is (top_in rows at n).j0 (omega (arith, a.0)), h.regret_is (top_in rows at n).j1 (omega (arith, a.1.0)))
       (rw (h.regret_is (n + 2) (omega arith), top_is n (omega arith)))
 
-  par_is : (n : ℕ) → n ≤ 8 → par_in odd at n ≡ par_to e n
+  par_is : (n : ℕ) → n ≤ 8 → par_in rows at n ≡ par_to e n
   unfolding par_in par_to
   par_is zero l = refl
   par_is (suc n) l = rw (h.odd_is n (omega arith), par_is n (omega arith))
 
-  base_is : (j0 fix : ℕ) → Flanked fix → (n : ℕ) → n ≤ 8 → base_in dist weight rank at j0 fix n ≡ now_to e j0 fix n
+  base_is : (j0 fix : ℕ) → Flanked fix → (n : ℕ) → n ≤ 8 → base_in rows at j0 fix n ≡ now_to e j0 fix n
   unfolding base_in now_to
   base_is j0 fix i zero l = refl
   base_is j0 fix i (suc n) l =
@@ -113,7 +113,7 @@ module _ {regret dist : List Float} {weight rank odd : List ℕ} {up : List Bool
 
   -- one paired step
   step_is : (bound : Closed) (n : Candidate) (best : Best) (j f f' j2 g g' : ℕ) → j < 8 → f < 5 → f' < 5 → j2 < 8 → g < 5 → g' < 5
-      → step_in (dist_in dist n.dist (spot at j f) (spot at j f') (spot at j2 g) (spot at j2 g')) weight rank bound n best
+      → step_in (dist_in rows n.dist (spot at j f) (spot at j f') (spot at j2 g) (spot at j2 g')) rows bound n best
       j (spot at j f) (spot at j f') j2 (spot at j2 g) (spot at j2 g')
       ≡ step_of (coord_at e j) (coord_at e j2) bound n best j f f' j2 g g'
   unfolding step_in step_of
@@ -126,23 +126,23 @@ module _ {regret dist : List Float} {weight rank odd : List ℕ} {up : List Bool
   module _ (top : Top) (fix : ℕ) (bound : Closed) (n : Candidate) (l0 : top.j0 < 8) (l1 : top.j1 < 8) (flanked : Flanked fix) where
     move_is : (best : Best) (i j j2 : ℕ) → i / 2 ≡ j → other_of j top.j0 top.j1 ≡ j2 → j < 8
         → step_in
-        (dist_in dist n.dist (spot at j (slot_of top.j0 fix j)) (spot at j (slot_of top.j0 fix j + 2 * (i % 2) - 1))
-        (spot at j2 (slot_of top.j0 fix j2)) (spot at j2 (second_in up at (slot_of top.j0 fix j2) j2)))
-        weight rank bound n best j (spot at j (slot_of top.j0 fix j)) (spot at j (slot_of top.j0 fix j + 2 * (i % 2) - 1))
-        j2 (spot at j2 (slot_of top.j0 fix j2)) (spot at j2 (second_in up at (slot_of top.j0 fix j2) j2))
+        (dist_in rows n.dist (spot at j (slot_of top.j0 fix j)) (spot at j (slot_of top.j0 fix j + 2 * (i % 2) - 1))
+        (spot at j2 (slot_of top.j0 fix j2)) (spot at j2 (second_in rows at (slot_of top.j0 fix j2) j2)))
+        rows bound n best j (spot at j (slot_of top.j0 fix j)) (spot at j (slot_of top.j0 fix j + 2 * (i % 2) - 1))
+        j2 (spot at j2 (slot_of top.j0 fix j2)) (spot at j2 (second_in rows at (slot_of top.j0 fix j2) j2))
         ≡ move_at e top fix bound n best i
     move_is best i j j2 q o l =
         let f = slot_flanked (eqb j top.j0) fix flanked in
         let g = slot_flanked (eqb j2 top.j0) fix flanked in
-        let t = slot_flanked (eqb (slot_of top.j0 fix j2) 2) (toward_in up at j2) (toward_flanked (get_or up (get_or at j2 0) false)) in
+        let t = slot_flanked (eqb (slot_of top.j0 fix j2) 2) (toward_in rows at j2) (toward_flanked (get_or rows.up (get_or at j2 0) false)) in
         let m = other-lt (eqb j top.j0) top.j0 top.j1 l0 l1 in
         rw (q, o, ← h.up_is j2 (rw o at m))
         (step_is bound n best j (slot_of top.j0 fix j) (slot_of top.j0 fix j + 2 * (i % 2) - 1) j2 (slot_of top.j0 fix j2)
-        (second_in up at (slot_of top.j0 fix j2) j2)
+        (second_in rows at (slot_of top.j0 fix j2) j2)
         l (omega (arith, f.1)) (omega (arith, f.1)) (rw o at m) (omega (arith, g.1)) (omega (arith, t.1)))
 
     turn_is : (best : Best) (j : ℕ) → j < 8
-        → paired_in dist weight rank up at top fix bound n best j (other_of j top.j0 top.j1)
+        → paired_in rows at top fix bound n best j (other_of j top.j0 top.j1)
         ≡ move_at e top fix bound n (move_at e top fix bound n best (2 * j)) (suc (2 * j))
     unfolding turn_in
     turn_is best j l =
@@ -154,7 +154,7 @@ module _ {regret dist : List Float} {weight rank odd : List ℕ} {up : List Bool
         rw (d, u) (rw (move_is best (2 * j) j (other_of j top.j0 top.j1) p refl l)
         (move_is (move_at e top fix bound n best (2 * j)) (suc (2 * j)) j (other_of j top.j0 top.j1) q refl l))
 
-    moves_is : (start : Best) (j : ℕ) → j ≤ 8 → moves_in dist weight rank up at top fix bound n start j ≡ moves_to e top fix bound n start (2 * j)
+    moves_is : (start : Best) (j : ℕ) → j ≤ 8 → moves_in rows at top fix bound n start j ≡ moves_to e top fix bound n start (2 * j)
     unfolding moves_in moves_to
     moves_is start zero l = refl
     moves_is start (suc j) l =
@@ -163,16 +163,16 @@ module _ {regret dist : List Float} {weight rank odd : List ℕ} {up : List Bool
 
   -- ---- one shrink
   top_lt : (top_to e 6).j0 < 8
-  top_lt = rw (top_is 6 (omega arith)) at (apart regret at 6).0
+  top_lt = rw (top_is 6 (omega arith)) at (apart rows at 6).0
 
   top_lt1 : (top_to e 6).j1 < 8
-  top_lt1 = rw (top_is 6 (omega arith)) at (apart regret at 6).1.0
+  top_lt1 = rw (top_is 6 (omega arith)) at (apart rows at 6).1.0
 
-  fix_is : (want : ℕ) (j0 : ℕ) → j0 < 8 → fix_in odd up at want j0 ≡ fix_of e want j0
+  fix_is : (want : ℕ) (j0 : ℕ) → j0 < 8 → fix_in rows at want j0 ≡ fix_of e want j0
   fix_is want j0 l = rw (par_is 8 (omega arith), h.up_is j0 l)
 
   start_is : (want : ℕ)
-      → start_in regret dist weight rank odd up at want
+      → start_in rows at want
       ≡ record { top = top_to e 6; fix = fix_of e want (top_to e 6).j0; n = now_to e (top_to e 6).j0 (fix_of e want (top_to e 6).j0) 8 }
   unfolding start_in
   start_is want =
@@ -180,7 +180,7 @@ module _ {regret dist : List Float} {weight rank odd : List ℕ} {up : List Bool
       rw (top_is 6 (omega arith), fix_is want (top_to e 6).j0 top_lt)
       (rw (base_is (top_to e 6).j0 (fix_of e want (top_to e 6).j0) f 8 (omega arith)))
 
-  layer_is : (want : ℕ) (bound : Closed) (best : Best) → layer_in regret dist weight rank odd up at want bound best ≡ layer_of e want bound best
+  layer_is : (want : ℕ) (bound : Closed) (best : Best) → layer_in rows at want bound best ≡ layer_of e want bound best
   unfolding layer_in
   layer_is want bound best =
       rw (start_is want)
@@ -189,15 +189,15 @@ module _ {regret dist : List Float} {weight rank odd : List ℕ} {up : List Bool
       _ 8 (omega arith))
 
   -- ---- the base of a parity
-  stepped_is : (s : Candidate) (j : ℕ) → j < 8 → stepped_in dist weight rank up at s j ≡ stepped (coord_at e j) s j
+  stepped_is : (s : Candidate) (j : ℕ) → j < 8 → stepped_in rows at s j ≡ stepped (coord_at e j) s j
   unfolding stepped_in stepped
   stepped_is s j l =
-      let t = toward_flanked (get_or up (get_or at j 0) false) in
-      let l5 : toward_in up at j < 5 = omega (arith, t.1) in
-      rw (h.weight_is j 2 l (omega arith), h.weight_is j (toward_in up at j) l l5, h.rank_is j (toward_in up at j) l l5)
-      (rw (h.dist_is j 2 l (omega arith), h.dist_is j (toward_in up at j) l l5) (rw (h.up_is j l)))
+      let t = toward_flanked (get_or rows.up (get_or at j 0) false) in
+      let l5 : toward_in rows at j < 5 = omega (arith, t.1) in
+      rw (h.weight_is j 2 l (omega arith), h.weight_is j (toward_in rows at j) l l5, h.rank_is j (toward_in rows at j) l l5)
+      (rw (h.dist_is j 2 l (omega arith), h.dist_is j (toward_in rows at j) l l5) (rw (h.up_is j l)))
 
-  base_for_lem : (r : ℕ) → base_for regret dist weight rank odd up at r ≡ base_now e r
+  base_for_lem : (r : ℕ) → base_for rows at r ≡ base_now e r
   unfolding base_for base_now
   base_for_lem r =
       rw (par_is 8 (omega arith), base_is 0 2 (omega arith, omega arith) 8 (omega arith), top_is 6 (omega arith), worst_two e 6)
@@ -229,9 +229,8 @@ module _ (ts : List Float) (p c s : ℕ) (ls : s < 8) where
       let r : spot (places_of c s) j f % 5 ≡ f = omega arith in
       tab_at A d (λ (i : ℕ). g (i / 5) (i % 5)) 640 (spot (places_of c s) j f) (omega (arith, place-lt j l)) ∙ rw (q, r)
 
-  held : RowAt (regrets_of (table_of ts p)) (dists_of (table_of ts p)) (weights_of (table_of ts p)) (ranks_of (table_of ts p))
-      (odds_of (table_of ts p)) (ups_of (table_of ts p)) (places_of c s) (row ts p c s)
-  unfolding regrets_of dists_of weights_of ranks_of odds_of ups_of
+  held : RowAt (rows_of (table_of ts p)) (places_of c s) (row ts p c s)
+  unfolding rows_of regrets_of dists_of weights_of ranks_of odds_of ups_of
   held =
       let e = table_of ts p in
       record {
@@ -248,7 +247,7 @@ module _ (ts : List Float) (p c : ℕ) where
   e = table_of ts p
 
   layers_is : (want : ℕ) (bound : Closed) (n : ℕ) → n < 8
-      → layers_in (regrets_of e) (dists_of e) (weights_of e) (ranks_of e) (odds_of e) (ups_of e) c want bound n ≡ layers_to ts p c want bound n
+      → layers_in (rows_of e) c want bound n ≡ layers_to ts p c want bound n
   unfolding layers_in layers_to
   layers_is want bound zero l =
       layer_is (held ts p c 0 l) want bound _
@@ -259,7 +258,7 @@ module _ (ts : List Float) (p c : ℕ) where
 
   -- the search over flat rows is the search
   pub solve_flat : (want : ℕ) (bound : Closed) (n : ℕ) → n ≤ 8
-      → solve_in (regrets_of e) (dists_of e) (weights_of e) (ranks_of e) (odds_of e) (ups_of e) c want bound n ≡ solve ts p c want bound n
+      → solve_in (rows_of e) c want bound n ≡ solve ts p c want bound n
   unfolding solve_in solve
   solve_flat want bound n l =
       let q : min n 8 ≡ n = omega arith in
@@ -267,7 +266,7 @@ module _ (ts : List Float) (p c : ℕ) where
 
   -- and its pair of bases are the bases of an even and an odd sum
   pub pair_flat : (b0 b1 : Closed)
-      → pair_in (regrets_of e) (dists_of e) (weights_of e) (ranks_of e) (odds_of e) (ups_of e) c b0 b1
+      → pair_in (rows_of e) c b0 b1
       ≡ record { even = base_best b0 (base_now (row ts p c 0) 0); odd = base_best b1 (base_now (row ts p c 0) 1) }
   unfolding pair_in
   pair_flat b0 b1 =

@@ -1,6 +1,5 @@
 // The candidate rule of one pattern and one parity of the sum of k, and the bases of both parities: `solve` and `base_pair` of the Rust's
-// encoder.rs, over the flat rows of a section. Record i of a section is at shrink i / 16, coordinate i / 2 % 8, pattern bit i % 2; slot f of
-// record i stands at 5 * i + f in `dist`, `weight` and `rank`; `up` says whether its target lies above its rounding.
+// encoder.rs, over the flat rows of a section (crate coord).
 // The idea: the base is the nearest vector of its pattern and class. Where it is outside the bound, vectors
 // beside it are tried, then the same about targets drawn toward zero. A step changes two terms of a distance
 // that is known, so a try is a few additions and one comparison; only one that is nearer is held against the
@@ -18,6 +17,7 @@ ghost use Rattle.solve.specs.Inner.Flat.{swap_bytes, places_of, spot, top_in, pa
 ghost use Rattle.solve.specs.Inner.Flat.{start_in, layer_in, solve_in, stepped_in, pair_in};
 ghost use Rattle.solve.specs.Inner.{Placed, Apart, Flanked, Covered, Ready};
 
+use coord::Rows;
 use search::{Best, Candidate, Closed, Found, Top};
 
 // One shrink before its steps: the two least decided coordinates, the slot of the first, the base.
@@ -37,28 +37,10 @@ pub struct Pair {
 
 // ---- leaves: each has one test or one cast, and says the range of its answer
 
-fn which(c: bool, a: usize, b: usize) -> usize
+fn which<T: Copy>(c: bool, a: T, b: T) -> T
     ensures { result ≡ cond c a b }
 {
     if c { a } else { b }
-}
-
-fn which_f(c: bool, a: f64, b: f64) -> f64
-    ensures { result ≡ cond c a b }
-{
-    if c { a } else { b }
-}
-
-fn wide(x: u16) -> u32
-    ensures { (result ≡ x) × (result < 65536) }
-{
-    x as u32
-}
-
-fn wide8(x: u8) -> u32
-    ensures { (result ≡ x) × (result < 256) }
-{
-    x as u32
 }
 
 // The slot a step toward the target.
@@ -68,20 +50,20 @@ fn toward(up: bool) -> usize
     if up { 3 } else { 1 }
 }
 
-// The weight at a place of the row of weights.
-fn weight_at(weight: &[u16; 640], i: usize) -> u32
+// The weight at a place of the rows.
+fn weight_at(rows: &Rows, i: usize) -> u32
     requires { i < 640 }
-    ensures { (result ≡ get_or weight.now i 0) × (result < 65536) }
+    ensures { (result ≡ get_or rows.now.weight i 0) × (result < 65536) }
 {
-    wide(weight[i])
+    u32::from(rows.weight[i])
 }
 
-// The rank at a place of the row of ranks.
-fn rank_at(rank: &[u8; 640], i: usize) -> u32
+// The rank at a place of the rows.
+fn rank_at(rows: &Rows, i: usize) -> u32
     requires { i < 640 }
-    ensures { (result ≡ get_or rank.now i 0) × (result < 256) }
+    ensures { (result ≡ get_or rows.now.rank i 0) × (result < 256) }
 {
-    wide8(rank[i])
+    u32::from(rows.rank[i])
 }
 
 // The slot at which coordinate j stands: 2, but `fix` at j0.
@@ -210,66 +192,59 @@ fn place(at: &[usize; 8], j: usize) -> usize
 }
 
 // The two largest regrets, the lower index on a tie. No branch: each of the four numbers is picked.
-fn top_two(regret: &[f64; 128], at: &[usize; 8]) -> Top
+fn top_two(rows: &Rows, at: &[usize; 8]) -> Top
     requires { Placed at.now }
-    ensures { (result ≡ top_in regret.now at.now 6) × Apart result 8 }
+    ensures { (result ≡ top_in rows.now at.now 6) × Apart result 8 }
 {
     let a0 = place(at, 0);
-    let x0 = regret[a0];
+    let x0 = rows.regret[a0];
     let a1 = place(at, 1);
-    let x1 = regret[a1];
+    let x1 = rows.regret[a1];
     let s = x1 > x0;
     let mut j0 = which(s, 1, 0);
     let mut j1 = which(s, 0, 1);
-    let mut m0 = which_f(s, x1, x0);
-    let mut m1 = which_f(s, x0, x1);
+    let mut m0 = which(s, x1, x0);
+    let mut m1 = which(s, x0, x1);
     for i in 0..6usize {
         let k = place(at, i + 2);
-        let x = regret[k];
+        let x = rows.regret[k];
         let a = x > m0;
         let b = x > m1;
         j1 = which(a, j0, which(b, i + 2, j1));
-        m1 = which_f(a, m0, which_f(b, x, m1));
+        m1 = which(a, m0, which(b, x, m1));
         j0 = which(a, i + 2, j0);
-        m0 = which_f(a, x, m0);
+        m0 = which(a, x, m0);
     }
     Top { j0, j1 }
 }
 
 // The parity of the sum of k0.
-fn parity_of(odd: &[u8; 128], at: &[usize; 8]) -> u32
+fn parity_of(rows: &Rows, at: &[usize; 8]) -> u32
     requires { Placed at.now }
-    ensures { (result ≡ par_in odd.now at.now 8) × (result < 2) }
+    ensures { (result ≡ par_in rows.now at.now 8) × (result < 2) }
 {
     let mut par = 0u32;
     for j in 0..8usize {
         let k = place(at, j);
-        par += wide8(odd[k]);
+        par += u32::from(rows.odd[k]);
     }
     par % 2
 }
 
 // Cost, packed row and distance with every coordinate at its rounding, but j0 at slot `fix`.
-fn base_at(
-    dist: &[f64; 640],
-    weight: &[u16; 640],
-    rank: &[u8; 640],
-    at: &[usize; 8],
-    j0: usize,
-    fix: usize,
-) -> Candidate
+fn base_at(rows: &Rows, at: &[usize; 8], j0: usize, fix: usize) -> Candidate
     requires placed { Placed at.now }
     requires flanked { Flanked fix }
-    ensures { (result ≡ base_in dist.now weight.now rank.now at.now j0 fix 8) × (result.cost < 600000) }
+    ensures { (result ≡ base_in rows.now at.now j0 fix 8) × (result.cost < 600000) }
 {
     let mut cost = 0u32;
     let mut key = 0u32;
     let mut d = 0.0f64;
     for j in 0..8usize {
         let i = 5 * place(at, j) + slot(j0, fix, j);
-        cost += weight_at(weight, i);
-        key = key | nibble(rank_at(rank, i), j);
-        d = d + dist[i];
+        cost += weight_at(rows, i);
+        key = key | nibble(rank_at(rows, i), j);
+        d = d + rows.dist[i];
     }
     Candidate { cost, key, dist: d }
 }
@@ -277,8 +252,7 @@ fn base_at(
 // One paired step, to a candidate at distance d: coordinate j from place a to a2, coordinate j2 from place b to b2.
 fn step(
     d: f64,
-    weight: &[u16; 640],
-    rank: &[u8; 640],
+    rows: &Rows,
     bound: Closed,
     n: Candidate,
     best: Best,
@@ -292,17 +266,17 @@ fn step(
     requires j_bound { (j < 8) × (j2 < 8) }
     requires a_bound { (a < 640) × (a2 < 640) }
     requires b_bound { (b < 640) × (b2 < 640) }
-    requires b_bound_2 { get_or weight.now a 0 + get_or weight.now b 0 ≤ n.cost }
+    requires b_bound_2 { get_or rows.now.weight a 0 + get_or rows.now.weight b 0 ≤ n.cost }
     requires cost_bound { n.cost < 600000 }
-    ensures { result ≡ step_in d weight.now rank.now bound n best j a a2 j2 b b2 }
+    ensures { result ≡ step_in d rows.now bound n best j a a2 j2 b b2 }
 {
     if d >= best.d {
         return best;
     }
-    let cost = n.cost - weight_at(weight, a) - weight_at(weight, b)
-        + weight_at(weight, a2)
-        + weight_at(weight, b2);
-    let key = key_moved(n.key, j, rank_at(rank, a2), j2, rank_at(rank, b2));
+    let cost = n.cost - weight_at(rows, a) - weight_at(rows, b)
+        + weight_at(rows, a2)
+        + weight_at(rows, b2);
+    let key = key_moved(n.key, j, rank_at(rows, a2), j2, rank_at(rows, b2));
     if holds(bound, cost, key) {
         return Best { d, key, met: true };
     }
@@ -311,9 +285,7 @@ fn step(
 
 // Both steps of coordinate j, down and up: they take the same two distances out of the base's.
 fn turn(
-    dist: &[f64; 640],
-    weight: &[u16; 640],
-    rank: &[u8; 640],
+    rows: &Rows,
     bound: Closed,
     n: Candidate,
     best: Best,
@@ -326,24 +298,21 @@ fn turn(
     requires j_bound { (j < 8) × (j2 < 8) }
     requires le_a { (1 ≤ a) × (a < 639) }
     requires b_bound { (b < 640) × (b2 < 640) }
-    requires b_bound_2 { get_or weight.now a 0 + get_or weight.now b 0 ≤ n.cost }
+    requires b_bound_2 { get_or rows.now.weight a 0 + get_or rows.now.weight b 0 ≤ n.cost }
     requires cost_bound { n.cost < 600000 }
-    ensures { result ≡ turn_in dist.now weight.now rank.now bound n best j a j2 b b2 }
+    ensures { result ≡ turn_in rows.now bound n best j a j2 b b2 }
 {
-    let x = n.dist - dist[a] - dist[b];
-    let y = dist[b2];
-    let d = x + dist[a - 1] + y;
-    let down = step(d, weight, rank, bound, n, best, j, a, a - 1, j2, b, b2);
-    let e = x + dist[a + 1] + y;
-    step(e, weight, rank, bound, n, down, j, a, a + 1, j2, b, b2)
+    let x = n.dist - rows.dist[a] - rows.dist[b];
+    let y = rows.dist[b2];
+    let d = x + rows.dist[a - 1] + y;
+    let down = step(d, rows, bound, n, best, j, a, a - 1, j2, b, b2);
+    let e = x + rows.dist[a + 1] + y;
+    step(e, rows, bound, n, down, j, a, a + 1, j2, b, b2)
 }
 
 // The sixteen paired steps, two a turn.
 fn moves(
-    dist: &[f64; 640],
-    weight: &[u16; 640],
-    rank: &[u8; 640],
-    up: &[bool; 128],
+    rows: &Rows,
     at: &[usize; 8],
     top: Top,
     fix: usize,
@@ -354,9 +323,9 @@ fn moves(
     requires placed { Placed at.now }
     requires j0_bound { (top.j0 < 8) × (top.j1 < 8) }
     requires flanked { Flanked fix }
-    requires covered { Covered weight.now at.now top fix n.cost }
+    requires covered { Covered rows.now at.now top fix n.cost }
     requires cost_bound { n.cost < 600000 }
-    ensures { result ≡ moves_in dist.now weight.now rank.now up.now at.now top fix bound n start 8 }
+    ensures { result ≡ moves_in rows.now at.now top fix bound n start 8 }
 {
     let mut best = start;
     let j0 = top.j0;
@@ -367,43 +336,33 @@ fn moves(
         let a = 5 * place(at, j) + slot(j0, fix, j);
         let i2 = place(at, j2);
         let b = 5 * i2 + g;
-        let b2 = 5 * i2 + second(g, toward(up[i2]));
-        best = turn(dist, weight, rank, bound, n, best, j, a, j2, b, b2);
+        let b2 = 5 * i2 + second(g, toward(rows.up[i2]));
+        best = turn(rows, bound, n, best, j, a, j2, b, b2);
     }
     best
 }
 
 // The slot of the least decided coordinate: its rounding, but a step toward its target where the parity is wrong.
-fn fix_of(odd: &[u8; 128], up: &[bool; 128], at: &[usize; 8], want: u32, j0: usize) -> usize
+fn fix_of(rows: &Rows, at: &[usize; 8], want: u32, j0: usize) -> usize
     requires placed { Placed at.now }
     requires j0_bound { j0 < 8 }
-    ensures { (result ≡ fix_in odd.now up.now at.now want j0) × Flanked result }
+    ensures { (result ≡ fix_in rows.now at.now want j0) × Flanked result }
 {
-    if parity_of(odd, at) == want {
+    if parity_of(rows, at) == want {
         return 2;
     }
     let i = place(at, j0);
-    toward(up[i])
+    toward(rows.up[i])
 }
 
 // The two least decided coordinates, the slot of the first, and the base that follows from it.
-fn begin(
-    regret: &[f64; 128],
-    dist: &[f64; 640],
-    weight: &[u16; 640],
-    rank: &[u8; 640],
-    odd: &[u8; 128],
-    up: &[bool; 128],
-    at: &[usize; 8],
-    want: u32,
-) -> Start
+fn begin(rows: &Rows, at: &[usize; 8], want: u32) -> Start
     requires { Placed at.now }
-    ensures { (result ≡ start_in regret.now dist.now weight.now rank.now odd.now up.now
-        at.now want) × Ready result weight.now at.now }
+    ensures { (result ≡ start_in rows.now at.now want) × Ready result rows.now at.now }
 {
-    let top = top_two(regret, at);
-    let fix = fix_of(odd, up, at, want, top.j0);
-    let n = base_at(dist, weight, rank, at, top.j0, fix);
+    let top = top_two(rows, at);
+    let fix = fix_of(rows, at, want, top.j0);
+    let n = base_at(rows, at, top.j0, fix);
     Start { top, fix, n }
 }
 
@@ -424,27 +383,15 @@ fn kept(bound: Closed, n: Candidate, best: Best) -> Best
 }
 
 // One shrink: the base, then the steps.
-fn layer(
-    regret: &[f64; 128],
-    dist: &[f64; 640],
-    weight: &[u16; 640],
-    rank: &[u8; 640],
-    odd: &[u8; 128],
-    up: &[bool; 128],
-    at: &[usize; 8],
-    want: u32,
-    bound: Closed,
-    best: Best,
-) -> Best
+fn layer(rows: &Rows, at: &[usize; 8], want: u32, bound: Closed, best: Best) -> Best
     requires { Placed at.now }
-    ensures { result ≡ layer_in regret.now dist.now weight.now rank.now odd.now up.now
-        at.now want bound best }
+    ensures { result ≡ layer_in rows.now at.now want bound best }
 {
-    let s = begin(regret, dist, weight, rank, odd, up, at, want);
+    let s = begin(rows, at, want);
     let top = s.top;
     let n = s.n;
     let b = kept(bound, n, best);
-    moves(dist, weight, rank, up, at, top, s.fix, bound, n, b)
+    moves(rows, at, top, s.fix, bound, n, b)
 }
 
 // ---- the search of one pattern
@@ -471,23 +418,11 @@ fn answer(b: Best) -> Found
 }
 
 // The nearest member that the candidate rule meets over the first n shrinks, at least one and at most eight.
-pub fn solve(
-    regret: &[f64; 128],
-    dist: &[f64; 640],
-    weight: &[u16; 640],
-    rank: &[u8; 640],
-    odd: &[u8; 128],
-    up: &[bool; 128],
-    pattern: u8,
-    want: u32,
-    bound: Closed,
-    n: usize,
-) -> Found
-    ensures { result ≡ found_of (solve_in regret.now dist.now weight.now rank.now odd.now up.now
-        pattern want bound n) }
+pub fn solve(rows: &Rows, pattern: u8, want: u32, bound: Closed, n: usize) -> Found
+    ensures { result ≡ found_of (solve_in rows.now pattern want bound n) }
 {
     let at = places(pattern, 0);
-    let s = begin(regret, dist, weight, rank, odd, up, &at, want);
+    let s = begin(rows, &at, want);
     let top = s.top;
     let base = s.n;
     let start = none();
@@ -495,10 +430,10 @@ pub fn solve(
     if first.met {
         return answer(first);
     }
-    let mut best = moves(dist, weight, rank, up, &at, top, s.fix, bound, base, first);
+    let mut best = moves(rows, &at, top, s.fix, bound, base, first);
     for i in 0..more(n) {
         let to = places(pattern, i + 1);
-        best = layer(regret, dist, weight, rank, odd, up, &to, want, bound, best);
+        best = layer(rows, &to, want, bound, best);
     }
     answer(best)
 }
@@ -506,29 +441,21 @@ pub fn solve(
 // ---- the bases of both parities
 
 // The base with coordinate j a step toward its target: the distance loses a term and gains a term.
-fn stepped(
-    dist: &[f64; 640],
-    weight: &[u16; 640],
-    rank: &[u8; 640],
-    up: &[bool; 128],
-    at: &[usize; 8],
-    s: Candidate,
-    j: usize,
-) -> Candidate
+fn stepped(rows: &Rows, at: &[usize; 8], s: Candidate, j: usize) -> Candidate
     requires placed { Placed at.now }
     requires j_bound { j < 8 }
-    requires j_bound_2 { (get_or weight.now (spot at.now j 2) 0 ≤ s.cost) × (s.cost < 600000) }
-    ensures { result ≡ stepped_in dist.now weight.now rank.now up.now at.now s j }
+    requires j_bound_2 { (get_or rows.now.weight (spot at.now j 2) 0 ≤ s.cost) × (s.cost < 600000) }
+    ensures { result ≡ stepped_in rows.now at.now s j }
 {
     let i = place(at, j);
     let a = 5 * i + 2;
-    let b = 5 * i + toward(up[i]);
-    let cost = s.cost - weight_at(weight, a) + weight_at(weight, b);
-    let key = key_set(s.key, j, rank_at(rank, b));
+    let b = 5 * i + toward(rows.up[i]);
+    let cost = s.cost - weight_at(rows, a) + weight_at(rows, b);
+    let key = key_set(s.key, j, rank_at(rows, b));
     Candidate {
         cost,
         key,
-        dist: s.dist - dist[a] + dist[b],
+        dist: s.dist - rows.dist[a] + rows.dist[b],
     }
 }
 
@@ -544,25 +471,14 @@ fn base_best(bound: Closed, n: Candidate) -> Best
 }
 
 // The base unrepaired serves the parity of its own sum, the one stepped at the least decided coordinate the other.
-fn base_pair(
-    regret: &[f64; 128],
-    dist: &[f64; 640],
-    weight: &[u16; 640],
-    rank: &[u8; 640],
-    odd: &[u8; 128],
-    up: &[bool; 128],
-    pattern: u8,
-    b0: Closed,
-    b1: Closed,
-) -> Pair
-    ensures { result ≡ pair_in regret.now dist.now weight.now rank.now odd.now up.now
-        pattern b0 b1 }
+fn base_pair(rows: &Rows, pattern: u8, b0: Closed, b1: Closed) -> Pair
+    ensures { result ≡ pair_in rows.now pattern b0 b1 }
 {
     let at = places(pattern, 0);
-    let top = top_two(regret, &at);
-    let n = base_at(dist, weight, rank, &at, 0, 2);
-    let m = stepped(dist, weight, rank, up, &at, n, top.j0);
-    if parity_of(odd, &at) == 0 {
+    let top = top_two(rows, &at);
+    let n = base_at(rows, &at, 0, 2);
+    let m = stepped(rows, &at, n, top.j0);
+    if parity_of(rows, &at) == 0 {
         return Pair {
             even: base_best(b0, n),
             odd: base_best(b1, m),
@@ -575,19 +491,8 @@ fn base_pair(
 }
 
 // The bases of 128 patterns.
-pub fn pairs(
-    regret: &[f64; 128],
-    dist: &[f64; 640],
-    weight: &[u16; 640],
-    rank: &[u8; 640],
-    odd: &[u8; 128],
-    up: &[bool; 128],
-    bytes: &[u8; 128],
-    b0: Closed,
-    b1: Closed,
-) -> [Pair; 128]
-    ensures { result ≡ tab (λ (i : ℕ). pair_in regret.now dist.now weight.now rank.now
-        odd.now up.now (get_or bytes.now i 0) b0 b1) 128 }
+pub fn pairs(rows: &Rows, bytes: &[u8; 128], b0: Closed, b1: Closed) -> [Pair; 128]
+    ensures { result ≡ tab (λ (i : ℕ). pair_in rows.now (get_or bytes.now i 0) b0 b1) 128 }
 {
     let first = Pair {
         even: none(),
@@ -595,7 +500,7 @@ pub fn pairs(
     };
     let mut out = [first; 128];
     for i in 0..128usize {
-        out[i] = base_pair(regret, dist, weight, rank, odd, up, bytes[i], b0, b1);
+        out[i] = base_pair(rows, bytes[i], b0, b1);
     }
     out
 }

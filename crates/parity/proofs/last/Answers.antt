@@ -13,7 +13,7 @@ pub returns : goal.returns
 returns c =
     let s = c.args in
     with_last s.setting (s.p % 2) s.u0
-    (end_with tables (solve_in s.g1.now s.d1.now s.w1.now s.k1.now s.o1.now s.v1.now) (pairs_of prefixes) s.fall1
+    (end_with tables (solve_in s.rows1.now) (pairs_of prefixes) s.fall1
     (rule_of s.setting).ends)
-    (mid_with tables (solve_in s.g2.now s.d2.now s.w2.now s.k2.now s.o2.now s.v2.now) middle_sets (rule_of s.setting).mids)
-    s.e1 s.e2 s.t3 c.rows_of-r.ensures c.suffixes-suf.ensures c.fallbacks-fall3.ensures c.end_starts-e3.ensures c.pass.ensures
+    (mid_with tables (solve_in s.rows2.now) middle_sets (rule_of s.setting).mids)
+    s.e1 s.e2 s.t3 c.rows_of-rows3.ensures c.suffixes-suf.ensures c.fallbacks-fall3.ensures c.end_starts-e3.ensures c.pass.ensures

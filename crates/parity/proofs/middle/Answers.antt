@@ -15,7 +15,7 @@ pub returns : goal.returns
 returns c =
     let s = c.args in
     with_middle s.setting (s.p % 2) s.u0
-    (end_with tables (solve_in s.g1.now s.d1.now s.w1.now s.k1.now s.o1.now s.v1.now) (pairs_of prefixes) s.fall1
+    (end_with tables (solve_in s.rows1.now) (pairs_of prefixes) s.fall1
     (rule_of s.setting).ends)
     (solved3 tables (rule_of s.setting) s.t3 (s.p % 2)) s.e1 (last_start s.t3 (s.p % 2)) s.t2
-    c.rows_of-r.ensures c.middle_sets-sets.ensures c.mid_starts-e2.ensures c.last.ensures
+    c.rows_of-rows2.ensures c.middle_sets-sets.ensures c.mid_starts-e2.ensures c.last.ensures

@@ -8,4 +8,4 @@ pub returns : goal.returns
 returns c =
     let s = c.args in
     with_first s.setting (s.p % 2) s.u0 (record { t1 = s.t1; t2 = s.t2; t3 = s.t3 })
-    c.rows_of-r.ensures c.prefixes-pre.ensures c.fallbacks-fall.ensures c.end_starts-e.ensures c.middle.ensures
+    c.rows_of-rows.ensures c.prefixes-pre.ensures c.fallbacks-fall.ensures c.end_starts-e.ensures c.middle.ensures

@@ -8,9 +8,9 @@ pub returns : goal.returns
 returns c =
     let s = c.args in
     let e = s.sides.now in
-    passed (solve_in s.g1.now s.d1.now s.w1.now s.k1.now s.o1.now s.v1.now)
-    (solve_in s.g2.now s.d2.now s.w2.now s.k2.now s.o2.now s.v2.now)
-    (solve_in s.g3.now s.d3.now s.w3.now s.k3.now s.o3.now s.v3.now)
+    passed (solve_in s.rows1.now)
+    (solve_in s.rows2.now)
+    (solve_in s.rows3.now)
     s.fall1 s.fall3 s.setting (s.p % 2) e.e1 e.e2 e.e3 s.u0
     c.prefixes-pre.ensures c.middle_sets-sets.ensures c.suffixes-suf.ensures c.ends_of-n.ensures c.mids_of-m.ensures
     c.lead-h.ensures c.seed_end.ensures c.seed_mid.ensures c.seed_end-2.ensures c.known-x.ensures

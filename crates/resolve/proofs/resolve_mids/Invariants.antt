@@ -8,4 +8,4 @@ use Rattle.resolve.proofs.resolve_mids.Given as goal
 
 abbrev pub invariant-loop-i : goal.invariant-loop-i
 invariant-loop-i l =
-    Filled no_entry (closed_with l.e l.b l.u (mid_with tables (solve_in l.regret l.dist l.weight l.rank l.odd l.up) l.sets l.n)) 256 l.i l.out
+    Filled no_entry (closed_with l.e l.b l.u (mid_with tables (solve_in l.rows) l.sets l.n)) 256 l.i l.out

@@ -5,11 +5,11 @@ use mathlib.Core.Path.{◌≡◌, ◌∙◌, sym, subst, refl}
 use mathlib.Core.Bool.{Bool, true, false, cond}
 use mathlib.Core.List.{List}
 use lib.Dec.{T, eqb, eqb→eq}
-use lib.Ieee.{Float}
 use borrow.Author.Tests.{eq-eqb}
 use Rattle.search.specs.declared.Top.{Top}
 use Rattle.search.specs.declared.Candidate.{Candidate}
 use Rattle.search.specs.Solve.{other_of}
+use Rattle.coord.specs.declared.Rows.{Rows}
 use Rattle.solve.specs.declared.Start.{Start}
 use Rattle.solve.specs.Inner.Flat.{top_in, fix_in, base_in, start_in}
 use Rattle.solve.specs.Laws.{other-lt}
@@ -21,31 +21,31 @@ differ : (j j0 j1 : ℕ) (b : Bool) → b ≡ eqb j j0 → (j0 ≡ j1 → ⊥) �
 differ j j0 j1 true e h q = h (sym (eqb→eq j j0 (subst T e tt)) ∙ q)
 differ j j0 j1 false e h q = subst T (sym (e ∙ eq-eqb j j0 q)) tt
 
-covered : (dist : List Float) (weight rank at : List ℕ) (t : Top) (fix : ℕ) {n : Candidate} → Apart t 8 → n ≡ base_in dist weight rank at t.j0 fix 8
-    → Covered weight at t fix n.cost
-covered dist weight rank at t fix a e j h =
+covered : (rows : Rows) (at : List ℕ) (t : Top) (fix : ℕ) {n : Candidate} → Apart t 8 → n ≡ base_in rows at t.j0 fix 8
+    → Covered rows at t fix n.cost
+covered rows at t fix a e j h =
     rw e
-    (two dist weight rank at t.j0 fix 8 j (other_of j t.j0 t.j1) h (other-lt (eqb j t.j0) t.j0 t.j1 a.0 a.1.0)
+    (two rows at t.j0 fix 8 j (other_of j t.j0 t.j1) h (other-lt (eqb j t.j0) t.j0 t.j1 a.0 a.1.0)
     (differ j t.j0 t.j1 (eqb j t.j0) refl a.1.1))
 
-begun : (regret dist : List Float) (weight rank odd : List ℕ) (up : List Bool) (at : List ℕ) (want : ℕ) {t : Top} {f : ℕ} {n : Candidate}
-    → t ≡ top_in regret at 6 → f ≡ fix_in odd up at want t.j0 → n ≡ base_in dist weight rank at t.j0 f 8
-    → ◌≡◌ {A = Start} (record { top = t; fix = f; n = n }) (start_in regret dist weight rank odd up at want)
+begun : (rows : Rows) (at : List ℕ) (want : ℕ) {t : Top} {f : ℕ} {n : Candidate}
+    → t ≡ top_in rows at 6 → f ≡ fix_in rows at want t.j0 → n ≡ base_in rows at t.j0 f 8
+    → ◌≡◌ {A = Start} (record { top = t; fix = f; n = n }) (start_in rows at want)
 unfolding start_in
-begun regret dist weight rank odd up at want ht hf hn = rw (hn, hf, ht)
+begun rows at want ht hf hn = rw (hn, hf, ht)
 
 pub returns : goal.returns
 returns c =
     let s = c.args in
     let a = c.top_two-top.ensures.1 in (
-      begun s.regret.now s.dist.now s.weight.now s.rank.now s.odd.now s.up.now s.at.now s.want
+      begun s.rows.now s.at.now s.want
           c.top_two-top.ensures.0 c.fix_of-fix.ensures.0 c.base_at-n.ensures.0,
       (
         (a.0, a.1.0),
         (
           c.fix_of-fix.ensures.1,
           (
-            covered s.dist.now s.weight.now s.rank.now s.at.now c.top_two-top.result c.fix_of-fix.result a
+            covered s.rows.now s.at.now c.top_two-top.result c.fix_of-fix.result a
                 c.base_at-n.ensures.0,
             c.base_at-n.ensures.1,
           ),

@@ -14,5 +14,5 @@ returns c =
     let e : c.loop-i.i ≡ 128 = omega arith in
     let i = c.loop-i.invariant in
     let s = c.args in
-    filled Pair past 128 (λ (k : ℕ). pair_in s.regret.now s.dist.now s.weight.now s.rank.now s.odd.now s.up.now
+    filled Pair past 128 (λ (k : ℕ). pair_in s.rows.now
     (get_or s.bytes.now k 0) s.b0 s.b1) c.loop-i.out i.1.0 (rw e at i.1.1)

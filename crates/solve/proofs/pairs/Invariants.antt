@@ -13,4 +13,4 @@ past = record { even = unmet; odd = unmet }
 
 abbrev pub invariant-loop-i : goal.invariant-loop-i
 invariant-loop-i l =
-    (l.i ≤ 128) × ((length l.out ≡ 128) × ((k : ℕ) → k < l.i → get_or l.out k past ≡ pair_in l.regret l.dist l.weight l.rank l.odd l.up (get_or l.bytes k 0) l.b0 l.b1))
+    (l.i ≤ 128) × ((length l.out ≡ 128) × ((k : ℕ) → k < l.i → get_or l.out k past ≡ pair_in l.rows (get_or l.bytes k 0) l.b0 l.b1))

@@ -4,14 +4,15 @@ use mathlib.Core.Path.{◌≡◌}
 use mathlib.Core.List.{List}
 use native.Mathlib.Numerals.{add-one}
 use lib.ListN.{get_or}
+use Rattle.coord.specs.declared.Rows.{Rows}
 use Rattle.solve.specs.Inner.Flat.{par_in}
 use borrow.Author.Rules.{rules}
 use native.Mathlib.Omega.{arith}
 use Rattle.solve.proofs.parity_of.Goals as goal
 
-more : (odd at : List ℕ) (n x : ℕ) {w k : ℕ} → x % 2 ≡ par_in odd at n → w ≡ get_or odd k 0 → k ≡ get_or at n 0 → (x + w) % 2 ≡ par_in odd at (suc n)
+more : (rows : Rows) (at : List ℕ) (n x : ℕ) {w k : ℕ} → x % 2 ≡ par_in rows at n → w ≡ get_or rows.odd k 0 → k ≡ get_or at n 0 → (x + w) % 2 ≡ par_in rows at (suc n)
 unfolding par_in
-more odd at n x p q e = rw (← p, ← e, ← q) (omega arith)
+more rows at n x p q e = rw (← p, ← e, ← q) (omega arith)
 
 pub loop-j-init : goal.loop-j-init
 unfolding par_in
@@ -19,4 +20,4 @@ loop-j-init c = search rules
 
 pub loop-j-preserved : goal.loop-j-preserved
 loop-j-preserved c = let i = c.loop-j.invariant in
-    (omega arith, (omega arith, rw add-one (more _ _ _ _ i.1.1 c.wide8-par.ensures.0 c.place-k.ensures.0)))
+    (omega arith, (omega arith, rw add-one (more _ _ _ _ i.1.1 c.from-par.ensures c.place-k.ensures.0)))

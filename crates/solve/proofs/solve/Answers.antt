@@ -1,13 +1,13 @@
 -- `solve::solve` meets its contract. The first shrink stands before the loop; the invariant: the best is that after the first shrink and i more.
 -- Assumes nothing.
-use mathlib.Core.Bool.{Bool, true, false}
+use mathlib.Core.Bool.{true, false}
 use mathlib.Core.List.{List}
 use native.Mathlib.Numerals.{add-one}
-use lib.Ieee.{Float}
 use Rattle.search.specs.declared.Closed.{Closed}
 use Rattle.search.specs.declared.Best.{Best}
 use Rattle.search.specs.declared.Found.{Found}
 use Rattle.search.specs.Solve.{kept_base, unmet, found_of}
+use Rattle.coord.specs.declared.Rows.{Rows}
 use Rattle.solve.specs.declared.Start.{Start}
 use Prim.Native.Nat.{ℕ, suc, ◌+◌, ◌-◌, min}
 use mathlib.Core.Path.{◌≡◌, ◌∙◌, ap}
@@ -15,36 +15,36 @@ use Rattle.solve.specs.Inner.Flat.{places_of, start_in, moved_from, layer_in, la
 use native.Mathlib.Omega.{arith}
 use Rattle.solve.proofs.solve.Goals as goal
 
-module _ (regret dist : List Float) (weight rank odd : List ℕ) (up : List Bool) (pattern want : ℕ) (bound : Closed) where
-  next : (i : ℕ) {at : List ℕ} {b x : Best} → at ≡ places_of pattern (i + 1) → b ≡ layers_in regret dist weight rank odd up pattern want bound i
-      → x ≡ layer_in regret dist weight rank odd up at want bound b → x ≡ layers_in regret dist weight rank odd up pattern want bound (suc i)
+module _ (rows : Rows) (pattern want : ℕ) (bound : Closed) where
+  next : (i : ℕ) {at : List ℕ} {b x : Best} → at ≡ places_of pattern (i + 1) → b ≡ layers_in rows pattern want bound i
+      → x ≡ layer_in rows at want bound b → x ≡ layers_in rows pattern want bound (suc i)
   unfolding layers_in
   next i ha hb hx = rw (← ha) (rw (← hb) hx)
 
-  module _ {at : List ℕ} {s : Start} {b z : Best} (ha : at ≡ places_of pattern 0) (hs : s ≡ start_in regret dist weight rank odd up at want)
+  module _ {at : List ℕ} {s : Start} {b z : Best} (ha : at ≡ places_of pattern 0) (hs : s ≡ start_in rows at want)
       (hz : z ≡ unmet)
       (hb : b ≡ kept_base bound s.n z) where
     first : b ≡ kept_base bound s.n unmet
     first = hb ∙ ap (kept_base bound s.n) hz
 
-    zeroth : {x : Best} → x ≡ moved_from dist weight rank up at bound s b → x ≡ layers_in regret dist weight rank odd up pattern want bound 0
+    zeroth : {x : Best} → x ≡ moved_from rows at bound s b → x ≡ layers_in rows pattern want bound 0
     unfolding layers_in layer_in
     zeroth hx = rw (← ha) (rw (← hs) (rw (← first) hx))
 
-    met_first : (n : ℕ) {x : Found} → b.met ≡ true → x ≡ found_of b → x ≡ found_of (solve_in regret dist weight rank odd up pattern want bound n)
+    met_first : (n : ℕ) {x : Found} → b.met ≡ true → x ≡ found_of b → x ≡ found_of (solve_in rows pattern want bound n)
     unfolding solve_in
     met_first n hm hx = rw (← ha) (rw (← hs) (rw (← first) (rw hm (simp hm at hx))))
 
-    unmet-first : (n : ℕ) {l : Best} {x : Found} → b.met ≡ false → l ≡ layers_in regret dist weight rank odd up pattern want bound (min n 8 - 1)
+    unmet-first : (n : ℕ) {l : Best} {x : Found} → b.met ≡ false → l ≡ layers_in rows pattern want bound (min n 8 - 1)
         → x ≡ found_of l
-        → x ≡ found_of (solve_in regret dist weight rank odd up pattern want bound n)
+        → x ≡ found_of (solve_in rows pattern want bound n)
     unfolding solve_in
     unmet-first n hm hl hx = rw (← ha) (rw (← hs) (rw (← first) (rw hm (rw (← hl) hx))))
 
 pub returns-then-first : goal.returns-then-first
 returns-then-first c =
     let s = c.args in
-    met_first s.regret.now s.dist.now s.weight.now s.rank.now s.odd.now s.up.now s.pattern s.want s.bound
+    met_first s.rows.now s.pattern s.want s.bound
     c.places-at.ensures.0 c.begin-s.ensures.0 c.none-start.ensures c.kept-first.ensures
     s.n c.if-first.true c.answer.ensures
 
@@ -52,7 +52,7 @@ pub loop-i-init : goal.loop-i-init
 loop-i-init c =
     let s = c.args in (
       omega arith,
-      zeroth s.regret.now s.dist.now s.weight.now s.rank.now s.odd.now s.up.now s.pattern s.want s.bound
+      zeroth s.rows.now s.pattern s.want s.bound
           c.places-at.ensures.0 c.begin-s.ensures.0 c.none-start.ensures c.kept-first.ensures
           c.moves-best.ensures,
     )
@@ -61,7 +61,7 @@ pub loop-i-preserved : goal.loop-i-preserved
 loop-i-preserved c =
     let s = c.args in (
       omega arith,
-      rw add-one (next s.regret.now s.dist.now s.weight.now s.rank.now s.odd.now s.up.now s.pattern s.want
+      rw add-one (next s.rows.now s.pattern s.want
           s.bound c.loop-i.i c.places-to.ensures.0 c.loop-i.invariant.1 c.layer-best.ensures),
     )
 
@@ -69,7 +69,7 @@ pub returns : goal.returns
 returns c =
     let s = c.args in
     let e : c.loop-i.i ≡ c.more-i-end.result = omega arith in
-    unmet-first s.regret.now s.dist.now s.weight.now s.rank.now s.odd.now s.up.now s.pattern s.want s.bound
+    unmet-first s.rows.now s.pattern s.want s.bound
     c.places-at.ensures.0 c.begin-s.ensures.0 c.none-start.ensures c.kept-first.ensures
     s.n c.if-first.false
     (rw (e, c.more-i-end.ensures.0) at c.loop-i.invariant.1) c.answer-2.ensures

@@ -7,4 +7,4 @@ use Rattle.solve.proofs.solve.Given as goal
 
 abbrev pub invariant-loop-i : goal.invariant-loop-i
 invariant-loop-i l =
-    (l.i ≤ l.i-end) × (l.best ≡ layers_in l.regret l.dist l.weight l.rank l.odd l.up l.pattern l.want l.bound l.i)
+    (l.i ≤ l.i-end) × (l.best ≡ layers_in l.rows l.pattern l.want l.bound l.i)

@@ -2,7 +2,6 @@
 use Prim.Native.Nat.{ℕ}
 use mathlib.Core.Path.{◌≡◌, ◌∙◌, sym}
 use mathlib.Core.Bool.{Bool, true, false, cond}
-use mathlib.Core.List.{List}
 use lib.ListN.{get_or}
 use lib.Ieee.{Float, le}
 use Rattle.search.specs.declared.Closed.{Closed}
@@ -10,29 +9,30 @@ use Rattle.search.specs.declared.Best.{Best}
 use Rattle.search.specs.declared.Candidate.{Candidate}
 use Rattle.search.specs.Bound.{holds}
 use Rattle.search.specs.Solve.{key_moved}
+use Rattle.coord.specs.declared.Rows.{Rows}
 use Rattle.solve.specs.Inner.Flat.{step_in, cost_in}
 use Rattle.solve.proofs.step.Goals as goal
 
-module _ (d : Float) (weight rank : List ℕ) (bound : Closed) (n : Candidate) (best : Best) (j a a2 j2 b b2 : ℕ) where
-  far : le best.d d ≡ true → best ≡ step_in d weight rank bound n best j a a2 j2 b b2
+module _ (d : Float) (rows : Rows) (bound : Closed) (n : Candidate) (best : Best) (j a a2 j2 b b2 : ℕ) where
+  far : le best.d d ≡ true → best ≡ step_in d rows bound n best j a a2 j2 b b2
   unfolding step_in
   far h = simp h
 
-  near : {cost key : ℕ} {h : Bool} → le best.d d ≡ false → cost ≡ cost_in weight n.cost a a2 b b2
-      → key ≡ key_moved n.key j (get_or rank a2 0) j2 (get_or rank b2 0) → h ≡ holds bound cost key → (met : Bool) → h ≡ met
-      → cond met (record { d = d; key = key; met = true }) best ≡ step_in d weight rank bound n best j a a2 j2 b b2
+  near : {cost key : ℕ} {h : Bool} → le best.d d ≡ false → cost ≡ cost_in rows n.cost a a2 b b2
+      → key ≡ key_moved n.key j (get_or rows.rank a2 0) j2 (get_or rows.rank b2 0) → h ≡ holds bound cost key → (met : Bool) → h ≡ met
+      → cond met (record { d = d; key = key; met = true }) best ≡ step_in d rows bound n best j a a2 j2 b b2
   unfolding step_in
   near l hc hk hh met e = simp (l, hk, (rw (hc, hk) at (sym hh ∙ e)))
 
 pub returns-then-d-best : goal.returns-then-d-best
 returns-then-d-best c =
     let s = c.args in
-    far s.d s.weight.now s.rank.now s.bound s.n s.best s.j s.a s.a2 s.j2 s.b s.b2 c.if-d-best.true
+    far s.d s.rows.now s.bound s.n s.best s.j s.a s.a2 s.j2 s.b s.b2 c.if-d-best.true
 
 pub returns-then-holds : goal.returns-then-holds
 returns-then-holds c =
     let s = c.args in
-    near s.d s.weight.now s.rank.now s.bound s.n s.best s.j s.a s.a2 s.j2 s.b s.b2
+    near s.d s.rows.now s.bound s.n s.best s.j s.a s.a2 s.j2 s.b s.b2
     c.if-d-best.false
     (simp (
       c.weight_at.ensures.0,
@@ -46,7 +46,7 @@ returns-then-holds c =
 pub returns : goal.returns
 returns c =
     let s = c.args in
-    near s.d s.weight.now s.rank.now s.bound s.n s.best s.j s.a s.a2 s.j2 s.b s.b2
+    near s.d s.rows.now s.bound s.n s.best s.j s.a s.a2 s.j2 s.b s.b2
     c.if-d-best.false
     (simp (
       c.weight_at.ensures.0,
