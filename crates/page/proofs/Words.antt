@@ -7,7 +7,7 @@ use native.Mathlib.Numerals.{add-one}
 use lib.ListN.{length, get_or, set, take, drop, replicate, length-set, take-append-drop, drop_of_length-le}
 use lib.Seq.{take-suc-set, drop-set-lt, drop-drop, length-take-le}
 use Rattle.laws.specs.Laws.Lists.{drop-next}
-use Rattle.text.specs.declared.line.Line.TheVariants.{Good, Bad}
+use Rattle.std.specs.Prelude.{Some, None}
 use Rattle.page.specs.Answer.{Reading, page, malformed, parsed_of}
 use Rattle.page.specs.Reader.{word_line_at, with_word, words_at}
 
@@ -38,7 +38,7 @@ module _ (text : List ℕ) (num count : ℕ) (words : List ℕ) (at i : ℕ) whe
     pub same : words_at num count text ≡ with_words (take i words) (words_at num (count - i) (drop at text))
 
   -- no word line stands there
-  pub kept-bad : Kept → i < count → word_line_at (drop at text) ≡ Bad → words_at num count text ≡ malformed
+  pub kept-bad : Kept → i < count → word_line_at (drop at text) ≡ None → words_at num count text ≡ malformed
   unfolding words_at
   kept-bad k h e =
       let n : count - i ≡ suc (count - suc i) = omega arith in
@@ -67,7 +67,7 @@ module _ (text : List ℕ) (num count : ℕ) (words : List ℕ) (at i : ℕ) whe
 
 -- one more word
 pub kept_next : (text : List ℕ) (num count : ℕ) (words : List ℕ) (at i w n : ℕ) → Kept text num count words at i → i < count → count ≤ 64
-    → word_line_at (drop at text) ≡ Good w n → at + n ≤ length text → Kept text num count (set words i w) (at + n) (i + 1)
+    → word_line_at (drop at text) ≡ Some (w, n) → at + n ≤ length text → Kept text num count (set words i w) (at + n) (i + 1)
 unfolding words_at
 kept_next text num count words at i w n k h c e r =
     let left : count - i ≡ suc (count - (i + 1)) = omega arith in

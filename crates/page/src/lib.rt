@@ -11,7 +11,7 @@ ghost use Rattle.page.specs.Reader.{words_at, reading_of};
 ghost use Rattle.page.specs.Form.{formed_of, form_in};
 
 use refusal::{NO_PAGE, NO_ROOM, NO_SCALE};
-use text::{Line, decimal_line, put};
+use text::{decimal_line, put};
 
 // What a text says: number 0, num, how many words it has, and the words, with zeros behind them; or number 9 and zeros.
 #[derive(Clone, Copy)]
@@ -64,7 +64,7 @@ fn words_of(text: &[u8], num: u32, count: usize) -> Parsed
     let mut at: usize = 0;
     let mut i: usize = 0;
     while i < count {
-        let Line::Good(word, n) = line::word_line(&text[at..]) else {
+        let Some((word, n)) = line::word_line(&text[at..]) else {
             return refused(NO_PAGE);
         };
         words[i] = word;
@@ -86,15 +86,15 @@ fn words_of(text: &[u8], num: u32, count: usize) -> Parsed
 pub fn parse(text: &[u8]) -> Parsed
     ensures { result ≡ parsed_of (reading_of text.now) }
 {
-    let Line::Good(_, a) = line::format_line(text) else {
+    let Some((_, a)) = line::format_line(text) else {
         return refused(NO_PAGE);
     };
     let s = &text[a..];
-    let Line::Good(num, b) = decimal_line(s, b"num=", 1, 65535) else {
+    let Some((num, b)) = decimal_line(s, b"num=", 1, 65535) else {
         return refused(NO_PAGE);
     };
     let t = &s[b..];
-    let Line::Good(count, c) = decimal_line(t, b"count=", 0, 64) else {
+    let Some((count, c)) = decimal_line(t, b"count=", 0, 64) else {
         return refused(NO_PAGE);
     };
     words_of(&t[c..], num as u32, count as usize)

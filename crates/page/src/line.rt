@@ -3,30 +3,28 @@
 ghost use Rattle.std.specs.Prelude.{◌≡◌};
 ghost use Rattle.page.specs.Reader.{format_at, word_line_at};
 
-use text::{Digit, Line, byte_at, hex, starts};
+use text::{Read, byte_at, hex, starts};
 
 // The first line, which has no value.
-pub(crate) fn format_line(s: &[u8]) -> Line
+pub(crate) fn format_line(s: &[u8]) -> Read<u64>
     ensures { result ≡ format_at s.now }
 {
     if starts(s, b"format=tetra-page\n") {
-        return Line::Good(0, 18);
+        return Some((0, 18));
     }
-    Line::Bad
+    None
 }
 
 // A word line.
-pub(crate) fn word_line(s: &[u8]) -> Line
+pub(crate) fn word_line(s: &[u8]) -> Read<u64>
     ensures { result ≡ word_line_at s.now }
 {
     if !starts(s, b"word=") {
-        return Line::Bad;
+        return None;
     }
-    let Digit::Value(w) = hex(&s[5..], 12) else {
-        return Line::Bad;
-    };
+    let w = hex(&s[5..], 12)?;
     if byte_at(s, 17) != b'\n' {
-        return Line::Bad;
+        return None;
     }
-    Line::Good(w, 18)
+    Some((w, 18))
 }

@@ -1,9 +1,7 @@
 -- The words of a request line, each behind one space, as its readers answer them for every line and place. Assumes nothing.
-use Rattle.std.specs.Prelude.{cond, List, [], ◌∷◌, ℕ, ◌+◌, ◌*◌, ◌^◌, ltb, leb, eqb, pos, neg_ℤ, length, drop, get_or}
+use Rattle.std.specs.Prelude.{cond, List, [], ◌∷◌, ℕ, ◌+◌, ◌*◌, ◌^◌, ltb, leb, eqb, pos, neg_ℤ, length, drop, get_or, Option, Some, None}
 use Rattle.std.specs.Float.{binary64}
 use Rattle.std.specs.Float.Ieee.{of_bits}
-use Rattle.text.specs.declared.line.Digit.{Digit}
-use Rattle.text.specs.declared.line.Digit.TheVariants.{Value, Other}
 use Rattle.text.specs.Lines.{onDigit, begins, digit_at}
 use Rattle.request.specs.declared.Number.{Number}
 use Rattle.request.specs.declared.Number.TheVariants.{Read, Bad}
@@ -24,12 +22,12 @@ unfoldable pub lowered : ℕ → ℕ
 lowered b = cond (ltb b 65) b (cond (ltb 70 b) b (b + 32))
 
 -- a digit of the base, of either case
-unfoldable pub digit_in : ℕ → ℕ → Digit
-digit_in base b = onDigit (digit_at (lowered b)) Other (λ d. cond (leb base d) Other (Value d))
+unfoldable pub digit_in : ℕ → ℕ → Option ℕ
+digit_in base b = onDigit (digit_at (lowered b)) None (λ d. cond (leb base d) None (Some d))
 
 -- v with one digit more, where that is below 2^64
-unfoldable pub more_of : ℕ → ℕ → ℕ → Digit
-more_of base v b = onDigit (digit_in base b) Other (λ d. cond (ltb (v * base + d) (2 ^ 64)) (Value (v * base + d)) Other)
+unfoldable pub more_of : ℕ → ℕ → ℕ → Option ℕ
+more_of base v b = onDigit (digit_in base b) None (λ d. cond (ltb (v * base + d) (2 ^ 64)) (Some (v * base + d)) None)
 
 -- ---- numbers
 -- v, which j digits make, of which there are 1 to `most`, with the place after them

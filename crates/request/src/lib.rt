@@ -3,13 +3,13 @@
 // 24 arguments. No call has a `requires`.
 #![tactic(auto)]
 
-ghost use Rattle.std.specs.Prelude.{◌≡◌, cond, length, drop};
+ghost use Rattle.std.specs.Prelude.{◌≡◌, length, drop};
 ghost use Rattle.request.specs.Words.{lowered, digit_in, more_of, counted_of, number_from};
 ghost use Rattle.request.specs.Words.{after_name, hex_after, decimal_after, double_after};
 ghost use Rattle.request.specs.Words.{plus_of, minus_of, signed_after};
 ghost use Rattle.request.specs.Rows.{no_samples, samples_after, no_point, point_after};
 
-use text::{Digit, byte_at, digit_of, double_of, starts};
+use text::{byte_at, digit_of, double_of, starts};
 
 // A number and the place after it, or that none stands there.
 #[derive(Clone, Copy)]
@@ -81,51 +81,22 @@ fn lower(b: u8) -> u8
 }
 
 // A digit below the base, of either case.
-fn digit(b: u8, base: u64) -> Digit
+fn digit(b: u8, base: u64) -> Option<u64>
     ensures { result ≡ digit_in base b }
 {
-    let Digit::Value(d) = digit_of(lower(b)) else {
-        return Digit::Other;
-    };
+    let d = digit_of(lower(b))?;
     if base <= d {
-        return Digit::Other;
+        return None;
     }
-    Digit::Value(d)
+    Some(d)
 }
 
-// v with one hex digit more, where that fits.
-fn hex_more(v: u64, b: u8) -> Digit
-    ensures { result ≡ more_of 16 v b }
+// v with one digit more, where that fits.
+fn more(v: u64, b: u8, base: u64) -> Option<u64>
+    ensures { result ≡ more_of base v b }
 {
-    let Digit::Value(d) = digit(b, 16) else {
-        return Digit::Other;
-    };
-    if (u64::MAX - d) / 16 < v {
-        return Digit::Other;
-    }
-    Digit::Value(v * 16 + d)
-}
-
-// v with one decimal digit more, where that fits.
-fn decimal_more(v: u64, b: u8) -> Digit
-    ensures { result ≡ more_of 10 v b }
-{
-    let Digit::Value(d) = digit(b, 10) else {
-        return Digit::Other;
-    };
-    if (u64::MAX - d) / 10 < v {
-        return Digit::Other;
-    }
-    Digit::Value(v * 10 + d)
-}
-
-fn more(v: u64, b: u8, hex: bool) -> Digit
-    ensures { result ≡ more_of (cond hex 16 10) v b }
-{
-    if hex {
-        return hex_more(v, b);
-    }
-    decimal_more(v, b)
+    let d = digit(b, base)?;
+    v.checked_mul(base)?.checked_add(d)
 }
 
 // The number v of j digits, of which there are 1 to `most`; `end` is the place after them.
@@ -142,8 +113,8 @@ fn counted(v: u64, j: usize, end: usize, most: usize) -> Number
 }
 
 // The number of the 1 to `most` digits from `first` to the next space or the line's end.
-fn number_from(s: &[u8], first: usize, hex: bool, most: usize) -> Number
-    ensures { result ≡ number_from (cond hex 16 10) most first 0 0 (drop first s.now) }
+fn number_from(s: &[u8], first: usize, base: u64, most: usize) -> Number
+    ensures { result ≡ number_from base most first 0 0 (drop first s.now) }
 {
     let mut v: u64 = 0;
     let mut j: usize = 0;
@@ -152,7 +123,7 @@ fn number_from(s: &[u8], first: usize, hex: bool, most: usize) -> Number
         if s[i] == b' ' {
             return counted(v, j, i, most);
         }
-        let Digit::Value(w) = more(v, s[i], hex) else {
+        let Some(w) = more(v, s[i], base) else {
             return Number::Bad;
         };
         v = w;
@@ -171,7 +142,7 @@ pub fn read_hex(s: &[u8], at: usize) -> Number
     if byte_at(s, at) != b' ' {
         return Number::Bad;
     }
-    number_from(s, at + 1, true, 16)
+    number_from(s, at + 1, 16, 16)
 }
 
 // One or more decimal digits, of a number below 2^64.
@@ -181,7 +152,7 @@ pub fn read_decimal(s: &[u8], at: usize) -> Number
     if byte_at(s, at) != b' ' {
         return Number::Bad;
     }
-    number_from(s, at + 1, false, s.len())
+    number_from(s, at + 1, 10, s.len())
 }
 
 // The 1 to 16 hex digits of a double's bits.
@@ -234,9 +205,9 @@ pub fn read_signed(s: &[u8], at: usize) -> Signed
     }
     let first = at + 1;
     if byte_at(s, first) == b'-' {
-        return minus(number_from(s, first + 1, false, s.len()));
+        return minus(number_from(s, first + 1, 10, s.len()));
     }
-    plus(number_from(s, first, false, s.len()))
+    plus(number_from(s, first, 10, s.len()))
 }
 
 // ---- rows

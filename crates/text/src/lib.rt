@@ -14,7 +14,7 @@ mod piece;
 mod write;
 
 pub use double::{double_of, put_double};
-pub use line::{Digit, Line, byte_at, decimal_line, digit_of, hex, starts};
-pub use list::{ListLine, list_line};
+pub use line::{Read, byte_at, decimal_line, digit_of, hex, starts};
+pub use list::list_line;
 pub use number::magnitude;
 pub use piece::{put, put_decimal, put_hex, put_line, put_list, put_signed};

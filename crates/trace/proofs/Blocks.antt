@@ -1,6 +1,5 @@
 -- The blocks taken one by one, and their samples kept in an array with zeros behind them. Assumes nothing.
 use mathlib.Core.Path.{◌≡◌, refl, ap, sym, ◌∙◌}
-use mathlib.Core.Bool.{true, false}
 use mathlib.Core.List.{List, [], ◌++◌, append-nil, append_assoc}
 use Prim.Native.Nat.{ℕ, suc, ◌+◌, ◌*◌, ◌-◌, ◌<◌, ◌≤◌}
 use native.Mathlib.Omega.{arith}
@@ -9,29 +8,10 @@ use native.Mathlib.Numerals.{add-one}
 use lib.IntN.{ℤ, pos}
 use lib.ListN.{length, drop, replicate, length-append, length-drop, length-replicate, replicate-append-replicate, drop_of_length-le}
 use lib.Seq.{sets, sets-eq, take_at, drop_at, drop-drop}
-use Rattle.text.specs.declared.line.Line.TheVariants.{Good}
-use Rattle.text.specs.declared.list.ListLine.{ListLine}
-use Rattle.text.specs.Text.{bytes}
-use Rattle.text.specs.Lines.{decimal_line_at}
-use Rattle.text.specs.Rows.{good_list, no_list, list_line_at}
+use Rattle.std.specs.Prelude.{Some, None}
 use Rattle.trace.specs.Answer.{Reading, trace, malformed, traced_of}
 use Rattle.trace.specs.Reader.{block_at, behind, blocks_at}
 use Rattle.trace.specs.Laws.Reader.{behind-behind, blocks-none, blocks_full, blocks-next}
-
--- ---- a block whose first line is there, and l is read behind it
-module _ (i : ℕ) (s : List ℕ) (v n : ℕ) (l : ListLine) (h : decimal_line_at (bytes "block=") i i s ≡ Good v n)
-    (r : l ≡ list_line_at (bytes "counts=") (drop n s)) where
-  pub no_block : l.good ≡ false → no_list ≡ block_at i s
-  unfolding block_at
-  no_block e =
-      let g : (list_line_at (bytes "counts=") (drop n s)).good ≡ false = ap (λ (l : ListLine). l.good) (sym r) ∙ e in
-      rw (h, g)
-
-  pub both_lines : l.good ≡ true → good_list l.values (n + l.length) ≡ block_at i s
-  unfolding block_at
-  both_lines e =
-      let g : (list_line_at (bytes "counts=") (drop n s)).good ≡ true = ap (λ (l : ListLine). l.good) (sym r) ∙ e in
-      rw (h, g) (ap (λ (l : ListLine). good_list l.values (n + l.length)) r)
 
 -- ---- blocks in a row
 behind-none : (R : Reading) → behind 0 [] R ≡ R
@@ -70,7 +50,7 @@ module _ (text : List ℕ) (num : ℕ) (samples : List ℤ) (at i : ℕ) where
       k.same ∙ rw (n, blocks_full num i (drop at text) (omega (arith, length-drop at text)))
 
   -- no block stands there
-  pub kept-bad : Kept → at < length text → i < 64 → (block_at i (drop at text)).good ≡ false → blocks_at num 0 64 text ≡ malformed
+  pub kept-bad : Kept → at < length text → i < 64 → block_at i (drop at text) ≡ None → blocks_at num 0 64 text ≡ malformed
   kept-bad k h l e =
       let n : 64 - i ≡ suc (64 - suc i) = omega arith in
       k.same ∙ rw (n, blocks-next num i (64 - suc i) (drop at text) (omega (arith, length-drop at text)), e)
@@ -91,7 +71,7 @@ kept-none text num samples e =
 
 -- one more block
 pub kept_next : (text : List ℕ) (num : ℕ) (samples : List ℤ) (at i : ℕ) (zs : List ℤ) (m : ℕ) → Kept text num samples at i → at < length text
-    → i < 64 → block_at i (drop at text) ≡ good_list zs m → length zs ≡ 24 → at + m ≤ length text
+    → i < 64 → block_at i (drop at text) ≡ Some (zs, m) → length zs ≡ 24 → at + m ≤ length text
     → Kept text num (sets samples (24 * i) zs) (at + m) (i + 1)
 kept_next text num samples at i zs m k h l e z r =
     let n : 64 - i ≡ suc (64 - (i + 1)) = omega arith in

@@ -1,17 +1,16 @@
 -- What the reader answers for each text, line by line. Trace.antt says what a trace is; TraceRule.antt proves that this reader accepts just
 -- the traces. Assumes nothing.
-use Rattle.std.specs.Prelude.{List, [], ◌∷◌, ◌++◌, ℕ, zero, suc, ◌+◌, ℤ, drop}
-use Rattle.text.specs.declared.list.ListLine.{ListLine}
+use Rattle.std.specs.Prelude.{List, [], ◌∷◌, ◌++◌, ℕ, zero, suc, ◌+◌, ℤ, drop, Option, Some, None}
 use Rattle.text.specs.Text.{bytes}
-use Rattle.text.specs.Lines.{onLine, decimal_line_at}
-use Rattle.text.specs.Rows.{good_list, no_list, onList, list_line_at}
+use Rattle.text.specs.Lines.{onRead, decimal_line_at}
+use Rattle.text.specs.Rows.{list_line_at}
 use Rattle.trace.specs.Answer.{Reading, trace, malformed}
 
 -- the two lines of the block of index i: its samples, and how many bytes both take
-unfoldable pub block_at : ℕ → List ℕ → ListLine
+unfoldable pub block_at : ℕ → List ℕ → Option (List ℤ × ℕ)
 block_at i s =
-    onLine (decimal_line_at (bytes "block=") i i s) no_list
-    (λ v n. onList (list_line_at (bytes "counts=") (drop n s)) no_list (λ zs m. good_list zs (n + m)))
+    onRead (decimal_line_at (bytes "block=") i i s) None
+    (λ v n. onRead (list_line_at (bytes "counts=") (drop n s)) None (λ zs m. Some (zs, n + m)))
 
 -- n blocks with these samples in front of those that are read
 abbrev pub behind : ℕ → List ℤ → Reading → Reading
@@ -24,7 +23,7 @@ blocks_at num i zero [] = trace num 0 []
 blocks_at num i zero (b ∷ s) = malformed
 blocks_at num i (suc n) [] = trace num 0 []
 blocks_at num i (suc n) (b ∷ s) =
-    onList (block_at i (b ∷ s)) malformed (λ zs m. behind 1 zs (blocks_at num (suc i) n (drop m (b ∷ s))))
+    onRead (block_at i (b ∷ s)) malformed (λ zs m. behind 1 zs (blocks_at num (suc i) n (drop m (b ∷ s))))
 
 unfoldable pub trace_in : List ℕ → Reading
-trace_in text = onLine (decimal_line_at (bytes "num=") 0 4294967295 text) malformed (λ num n. blocks_at num 0 64 (drop n text))
+trace_in text = onRead (decimal_line_at (bytes "num=") 0 4294967295 text) malformed (λ num n. blocks_at num 0 64 (drop n text))

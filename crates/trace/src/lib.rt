@@ -7,12 +7,11 @@
 
 ghost use Rattle.std.specs.Prelude.{◌≡◌, ◌+◌, ◌<◌, ◌≤◌, pos, length, replicate};
 ghost use Rattle.std.proofs.lemmas.List.Edits.{sets};
-ghost use Rattle.text.specs.Rows.{no_list};
 ghost use Rattle.trace.specs.Answer.{refused_by, traced_of};
 ghost use Rattle.trace.specs.Reader.{block_at, blocks_at, trace_in};
 
 use refusal::NO_PAGE;
-use text::{Line, ListLine, decimal_line, list_line};
+use text::{Read, decimal_line, list_line};
 
 // What a text says: number 0, num, how many blocks it has, and their samples in a row, 24 a block, with zeros
 // behind them; or number 9 and zeros.
@@ -43,35 +42,15 @@ fn refused(number: u32) -> Traced
     }
 }
 
-fn no_block() -> ListLine
-    ensures { result ≡ no_list }
-{
-    ListLine {
-        good: false,
-        length: 0,
-        values: [0i32; 24],
-    }
-}
-
 // The two lines of the block of this index: its samples, and how many bytes both lines take.
-fn block_at(s: &[u8], index: usize) -> ListLine
+fn block_at(s: &[u8], index: usize) -> Read<[i32; 24]>
     requires { index < 64 }
     ensures { result ≡ block_at index s.now }
 {
     let i = index as u32;
-    let Line::Good(_, n) = decimal_line(s, b"block=", i, i) else {
-        return no_block();
-    };
-    let row = list_line(&s[n..], b"counts=");
-    if !row.good {
-        return no_block();
-    }
-    let values = row.values;
-    ListLine {
-        good: true,
-        length: n + row.length,
-        values,
-    }
+    let (_, first) = decimal_line(s, b"block=", i, i)?;
+    let (values, second) = list_line(&s[first..], b"counts=")?;
+    Some((values, first + second))
 }
 
 // The samples of a block, put from `at` on.
@@ -96,13 +75,12 @@ fn blocks_of(text: &[u8], num: u32) -> Traced
         if i == 64 {
             return refused(NO_PAGE);
         }
-        let block = block_at(&text[at..], i);
-        if !block.good {
+        let Some(block) = block_at(&text[at..], i) else {
             return refused(NO_PAGE);
-        }
-        let values = block.values;
+        };
+        let (values, n) = block;
         put_block(&mut samples, 24 * i, values);
-        at += block.length;
+        at += n;
         i += 1;
     }
     Traced {
@@ -117,7 +95,7 @@ fn blocks_of(text: &[u8], num: u32) -> Traced
 pub fn parse(text: &[u8]) -> Traced
     ensures { result ≡ traced_of (trace_in text.now) }
 {
-    let Line::Good(num, n) = decimal_line(text, b"num=", 0, 4294967295) else {
+    let Some((num, n)) = decimal_line(text, b"num=", 0, 4294967295) else {
         return refused(NO_PAGE);
     };
     blocks_of(&text[n..], num as u32)

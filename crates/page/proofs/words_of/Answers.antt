@@ -5,7 +5,7 @@ use mathlib.Core.Path.{◌≡◌, sym, ap, ◌∙◌}
 use mathlib.Core.List.{List}
 use Prim.Native.Nat.{ℕ, ◌+◌, ◌≤◌}
 use lib.ListN.{length, drop, length-drop}
-use Rattle.text.specs.declared.line.Line.TheVariants.{Good}
+use Rattle.std.specs.Prelude.{Some}
 use Rattle.text.specs.Laws.Lines.{tail, line-fits}
 use Rattle.page.specs.Page.{word_line}
 use Rattle.page.specs.Answer.{parsed_of}
@@ -13,7 +13,7 @@ use Rattle.page.specs.Reader.{word_line_at}
 use Rattle.page.specs.Laws.Reader.{word_rule}
 use Rattle.page.proofs.Words.{kept-bad, kept_long, kept_end, kept_next}
 use Rattle.page.proofs.words_of.Goals as goal
-use Rattle.page.proofs.words_of.Goals.{After-word_line, In-Good}
+use Rattle.page.proofs.words_of.Goals.{After-word_line, In-Some}
 
 -- the text, and what is left of it
 abbrev text : After-word_line → List ℕ
@@ -29,12 +29,12 @@ answer c =
     ∙ ap word_line_at (tail c.args.text.now c.loop-i.at)
 
 -- the word and its line's length
-word : (c : In-Good) → word_line_at (drop c.loop-i.at c.args.text.now) ≡ Good c.in-Good.word c.in-Good.n
-word c = sym (c.word_line.ensures ∙ ap word_line_at (tail c.args.text.now c.loop-i.at)) ∙ c.in-Good.is
+word : (c : In-Some) → word_line_at (drop c.loop-i.at c.args.text.now) ≡ Some (c.in-Some.word, c.in-Some.n)
+word c = sym (c.word_line.ensures ∙ ap word_line_at (tail c.args.text.now c.loop-i.at)) ∙ c.in-Some.is
 
 -- the line stands within the text
-room : (c : In-Good)
-    → c.loop-i.at + c.in-Good.n ≤ length c.args.text.now
+room : (c : In-Some)
+    → c.loop-i.at + c.in-Some.n ≤ length c.args.text.now
 room c =
     let l = c.loop-i in
     let s = c.args.text.now in
@@ -50,13 +50,13 @@ returns-in_default c =
     ∙ ap parsed_of (sym (kept-bad a.text.now a.num a.count l.words l.at l.i l.invariant (omega arith) e))
 
 pub overflow_add-at : goal.overflow_add-at
-overflow_add-at c = omega (arith, room (goal.at.overflow_add-at c).In-Good, c.well_formed.0.0)
+overflow_add-at c = omega (arith, room (goal.at.overflow_add-at c).In-Some, c.well_formed.0.0)
 
 pub loop-i-preserved : goal.loop-i-preserved
 loop-i-preserved c =
     let l = c.loop-i in
     let a = c.args in
-    kept_next a.text.now a.num a.count l.words l.at l.i _ _ l.invariant (omega arith) c.requires (word (goal.at.loop-i-preserved c).In-Good) (room (goal.at.loop-i-preserved c).In-Good)
+    kept_next a.text.now a.num a.count l.words l.at l.i _ _ l.invariant (omega arith) c.requires (word (goal.at.loop-i-preserved c).In-Some) (room (goal.at.loop-i-preserved c).In-Some)
 
 pub returns-then-at-text : goal.returns-then-at-text
 unfolding parsed_of

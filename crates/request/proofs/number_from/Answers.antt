@@ -18,14 +18,14 @@ whole : (c : In-loop-i)
     → let a = c.args in
     let l = c.loop-i in
     let b = get_or a.s.now l.i 0 in
-    number_from (cond a.hex 16 10) a.most a.first 0 0 (drop a.first a.s.now)
+    number_from a.base a.most a.first 0 0 (drop a.first a.s.now)
     ≡ cond (eqb b 32) (counted_of a.most l.i l.v l.j)
-    (onDigit (more_of (cond a.hex 16 10) l.v b) Bad
-    (λ w. number_from (cond a.hex 16 10) a.most (l.i + 1) w (l.j + 1) (drop (l.i + 1) a.s.now)))
+    (onDigit (more_of a.base l.v b) Bad
+    (λ w. number_from a.base a.most (l.i + 1) w (l.j + 1) (drop (l.i + 1) a.s.now)))
 whole c =
     let a = c.args in
     let l = c.loop-i in
-    sym l.invariant.1 ∙ number_step (cond a.hex 16 10) a.most l.i l.v l.j a.s.now (omega arith)
+    sym l.invariant.1 ∙ number_step a.base a.most l.i l.v l.j a.s.now (omega arith)
 
 pub returns-then-s-i-eq32 : goal.returns-then-s-i-eq32
 returns-then-s-i-eq32 c = c.counted.ensures ∙ sym (whole (goal.at.returns-then-s-i-eq32 c).In-loop-i ∙ rw (eq-eqb _ _ c.if-s-i-eq32.true))
@@ -37,7 +37,7 @@ returns-in_default c =
 
 pub loop-i-preserved : goal.loop-i-preserved
 loop-i-preserved c =
-    let e = sym c.more.ensures ∙ c.in-Value.is in
+    let e = sym c.more.ensures ∙ c.in-Some.is in
     (omega (arith, c.loop-i.invariant.0), sym (whole (goal.at.loop-i-preserved c).In-loop-i ∙ rw (ne_eqb _ _ c.if-s-i-eq32.false, e)))
 
 pub returns : goal.returns
@@ -45,4 +45,4 @@ returns c =
     let a = c.args in
     let l = c.loop-i in
     c.counted-2.ensures
-    ∙ sym (sym l.invariant.1 ∙ number_end (cond a.hex 16 10) a.most l.i l.v l.j a.s.now (omega arith))
+    ∙ sym (sym l.invariant.1 ∙ number_end a.base a.most l.i l.v l.j a.s.now (omega arith))

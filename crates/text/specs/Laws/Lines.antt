@@ -1,55 +1,52 @@
 -- Each reader accepts just what it reads: digits, keys, and lines of a key and a decimal number; and lines are taken off a text one by one.
 -- Assumes nothing.
-use Rattle.std.specs.Prelude.{◌≡◌, refl, Bool, true, false, cond, ◌&&◌, List, [], ◌∷◌, ◌++◌, ℕ, zero, suc, ◌+◌, ◌*◌, ◌-◌, ◌/◌, ◌%◌, ◌^◌, ◌<◌, ◌≤◌, ltb, leb, eqb, length, get_or, take, drop}
+use Rattle.std.specs.Prelude.{◌≡◌, refl, Bool, true, false, cond, ◌&&◌, List, [], ◌∷◌, ◌++◌, ℕ, zero, suc, ◌+◌, ◌*◌, ◌-◌, ◌/◌, ◌%◌, ◌^◌, ◌<◌, ◌≤◌, ltb, leb, eqb, length, get_or, take, drop, Option, Some, None}
 use Rattle.std.proofs.Common.{ap, ap₂, sym, ◌∙◌, append_assoc, arith, pow-suc, zero-add, suc-add, add-one, length-append, length-drop, take-suc, take_all}
 use Rattle.std.proofs.Math.Bool.{and-eq-true_iff}
 use borrow.Author.Tests.{lt-ltb, le-ltb, le-leb, lt-leb, eq-eqb, ne_eqb, ltb-true, ltb-false, leb-true, eqb-true, eqb-false}
 use Rattle.std.proofs.Math.ListN.{get_or-eq_default}
 use Rattle.std.proofs.lemmas.List.{get_or_at}
+use Rattle.std.proofs.lemmas.Option.{some_pair_parts}
 use Rattle.std.proofs.Math.Seq.{drop-append_seam}
-use Rattle.text.specs.declared.line.Digit.{Digit}
-use Rattle.text.specs.declared.line.Digit.TheVariants.{Value, Other}
-use Rattle.text.specs.declared.line.Line.{Line}
-use Rattle.text.specs.declared.line.Line.TheVariants.{Good, Bad}
 use Rattle.text.specs.Text.{line, decimal, hex, hex_digit}
 use Rattle.text.specs.Laws.Text.{hex-length, decimal-small, decimal_more, decimal_step, decimal-some}
-use Rattle.text.specs.Lines.{onLine, onDigit, begins, digit_at, hex_at, decimal_at, keyed_at, decimal_line_at}
+use Rattle.text.specs.Lines.{onRead, onDigit, begins, digit_at, hex_at, decimal_at, keyed_at, decimal_line_at}
 
 -- ---- a digit
 module _ (b : ℕ) where
-  pub below_figures : b < 48 → digit_at b ≡ Other
+  pub below_figures : b < 48 → digit_at b ≡ None
   unfolding digit_at
   below_figures h = rw (lt-ltb b 48 h)
 
-  pub figure : 48 ≤ b → b ≤ 57 → digit_at b ≡ Value (b - 48)
+  pub figure : 48 ≤ b → b ≤ 57 → digit_at b ≡ Some (b - 48)
   unfolding digit_at
   figure h k = rw (le-ltb b 48 h, le-leb b 57 k)
 
-  pub below_letters : 57 < b → b < 97 → digit_at b ≡ Other
+  pub below_letters : 57 < b → b < 97 → digit_at b ≡ None
   unfolding digit_at
   below_letters h k = rw (le-ltb b 48 (omega arith), lt-leb b 57 h, lt-ltb b 97 k)
 
-  pub letter : 97 ≤ b → b ≤ 102 → digit_at b ≡ Value (b - 87)
+  pub letter : 97 ≤ b → b ≤ 102 → digit_at b ≡ Some (b - 87)
   unfolding digit_at
   letter h k = rw (le-ltb b 48 (omega arith), lt-leb b 57 (omega arith), le-ltb b 97 h, le-leb b 102 k)
 
-  pub above_letters : 102 < b → digit_at b ≡ Other
+  pub above_letters : 102 < b → digit_at b ≡ None
   unfolding digit_at
   above_letters h = rw (le-ltb b 48 (omega arith), lt-leb b 57 (omega arith), le-ltb b 97 (omega arith), lt-leb b 102 h)
 
-pub digit-back : (d : ℕ) → d < 16 → digit_at (hex_digit d) ≡ Value d
+pub digit-back : (d : ℕ) → d < 16 → digit_at (hex_digit d) ≡ Some d
 digit-back d h = go (ltb d 10) refl
   where
-    go : (p : Bool) → ltb d 10 ≡ p → digit_at (cond p (48 + d) (87 + d)) ≡ Value d
-    go true e = figure (48 + d) (omega arith) (omega (arith, ltb-true d 10 e)) ∙ ap Value (omega arith)
-    go false e = letter (87 + d) (omega (arith, ltb-false d 10 e)) (omega arith) ∙ ap Value (omega arith)
+    go : (p : Bool) → ltb d 10 ≡ p → digit_at (cond p (48 + d) (87 + d)) ≡ Some d
+    go true e = figure (48 + d) (omega arith) (omega (arith, ltb-true d 10 e)) ∙ ap Some (omega arith)
+    go false e = letter (87 + d) (omega (arith, ltb-false d 10 e)) (omega arith) ∙ ap Some (omega arith)
 
-pub digit_only : (b d : ℕ) → digit_at b ≡ Value d → (d < 16) × (hex_digit d ≡ b) × (0 < b)
+pub digit_only : (b d : ℕ) → digit_at b ≡ Some d → (d < 16) × (hex_digit d ≡ b) × (0 < b)
 unfolding digit_at
 digit_only b d = go (ltb b 48) (leb b 57) (ltb b 97) (leb b 102) refl refl refl refl
   where
     go : (p q r t : Bool) → ltb b 48 ≡ p → leb b 57 ≡ q → ltb b 97 ≡ r → leb b 102 ≡ t
-        → cond p Other (cond q (Value (b - 48)) (cond r Other (cond t (Value (b - 87)) Other))) ≡ Value d
+        → cond p None (cond q (Some (b - 48)) (cond r None (cond t (Some (b - 87)) None))) ≡ Some d
         → (d < 16) × (hex_digit d ≡ b) × (0 < b)
     go true q r t hp hq hr ht e = let z : ◌≡◌ {A = ℕ} 0 1 = cc in absurd (omega arith)
     go false true r t hp hq hr ht e =
@@ -66,9 +63,9 @@ digit_only b d = go (ltb b 48) (leb b 57) (ltb b 97) (leb b 102) refl refl refl 
     go false false false false hp hq hr ht e = let z : ◌≡◌ {A = ℕ} 0 1 = cc in absurd (omega arith)
 
 -- ---- a row of digits
-pub hex-back : (k v : ℕ) (rest : List ℕ) → v < 16 ^ k → hex_at k (hex k v ++ rest) ≡ Value v
+pub hex-back : (k v : ℕ) (rest : List ℕ) → v < 16 ^ k → hex_at k (hex k v ++ rest) ≡ Some v
 unfolding hex_at hex
-hex-back zero v rest h = ap Value (omega arith)
+hex-back zero v rest h = ap Some (omega arith)
 hex-back (suc k) v rest h =
     rw (
       append_assoc,
@@ -76,7 +73,7 @@ hex-back (suc k) v rest h =
       get_or_at (hex k (v / 16)) (hex_digit (v % 16)) rest 0 k (hex-length k (v / 16)),
       digit-back (v % 16) (omega arith),
     )
-    (ap Value (omega arith))
+    (ap Some (omega arith))
 
 -- a byte other than 0 stands within the text
 pub there : (s : List ℕ) (k b : ℕ) → get_or s k 0 ≡ b → 0 < b → k < length s
@@ -86,16 +83,16 @@ there s k b e h = go (ltb k (length s)) refl
     go true q = ltb-true k (length s) q
     go false q = absurd (omega (arith, e, get_or-eq_default s 0 (ltb-false k (length s) q)))
 
-pub hex_only : (k : ℕ) (s : List ℕ) (v : ℕ) → hex_at k s ≡ Value v → (v < 16 ^ k) × (take k s ≡ hex k v)
+pub hex_only : (k : ℕ) (s : List ℕ) (v : ℕ) → hex_at k s ≡ Some v → (v < 16 ^ k) × (take k s ≡ hex k v)
 unfolding hex_at hex
 hex_only zero s v e = let z : 0 ≡ v = cc in (omega arith, refl)
 hex_only (suc k) s v e = go (hex_at k s) (digit_at (get_or s k 0)) refl refl e (hex_only k s)
   where
-    go : (x y : Digit) → hex_at k s ≡ x → digit_at (get_or s k 0) ≡ y
-        → onDigit x Other (λ u. onDigit y Other (λ d. Value (u * 16 + d))) ≡ Value v
-        → ((u : ℕ) → hex_at k s ≡ Value u → (u < 16 ^ k) × (take k s ≡ hex k u))
+    go : (x y : Option ℕ) → hex_at k s ≡ x → digit_at (get_or s k 0) ≡ y
+        → onDigit x None (λ u. onDigit y None (λ d. Some (u * 16 + d))) ≡ Some v
+        → ((u : ℕ) → hex_at k s ≡ Some u → (u < 16 ^ k) × (take k s ≡ hex k u))
         → (v < 16 ^ suc k) × (take (suc k) s ≡ hex k (v / 16) ++ (hex_digit (v % 16) ∷ []))
-    go (Value u) (Value d) hx hy e ih =
+    go (Some u) (Some d) hx hy e ih =
         let z : u * 16 + d ≡ v = cc in
         let o = digit_only (get_or s k 0) d hy in
         let i = ih u hx in
@@ -104,11 +101,11 @@ hex_only (suc k) s v e = go (hex_at k s) (digit_at (get_or s k 0)) refl refl e (
           omega (arith, o.0, i.0, pow-suc 16 k),
           take-suc s k 0 (there s k (get_or s k 0) refl o.2) ∙ rw (q, r, i.1, o.1),
         )
-    go (Value u) Other hx hy e ih = let z : ◌≡◌ {A = ℕ} 0 1 = cc in absurd (omega arith)
-    go Other y hx hy e ih = let z : ◌≡◌ {A = ℕ} 0 1 = cc in absurd (omega arith)
+    go (Some u) None hx hy e ih = let z : ◌≡◌ {A = ℕ} 0 1 = cc in absurd (omega arith)
+    go None y hx hy e ih = let z : ◌≡◌ {A = ℕ} 0 1 = cc in absurd (omega arith)
 
 -- once a byte is no digit, no longer row is one
-pub hex-other : (i k : ℕ) (s : List ℕ) → hex_at k s ≡ Other → hex_at (i + k) s ≡ Other
+pub hex-other : (i k : ℕ) (s : List ℕ) → hex_at k s ≡ None → hex_at (i + k) s ≡ None
 unfolding hex_at
 hex-other zero k s e = rw zero-add e
 hex-other (suc i) k s e = rw (suc-add, hex-other i k s e)
@@ -178,7 +175,7 @@ digits-back end most (suc f) x rest he hf hm =
         )
 
 pub decimal-back : (end most x : ℕ) (rest : List ℕ) → end < 48 → x ≤ most
-    → decimal_at end most 0 0 (decimal x ++ (end ∷ rest)) ≡ Good x (length (decimal x) + 1)
+    → decimal_at end most 0 0 (decimal x ++ (end ∷ rest)) ≡ Some (x, length (decimal x) + 1)
 unfolding decimal_at
 decimal-back end most x rest he h =
     digits-back end most (suc x) x (end ∷ rest) he (omega arith) h
@@ -203,7 +200,7 @@ sofar_more v (suc j) b h l lo hi =
     rw (add-one) (decimal_step v (b - 48) (omega (arith, n)) (omega arith) ∙ rw e)
 
 decimal_from : (end most : ℕ) (s : List ℕ) (v j x n : ℕ) → v ≤ most → (j ≡ 0 → v ≡ 0) → length (sofar j v) ≡ j
-    → decimal_at end most v j s ≡ Good x n
+    → decimal_at end most v j s ≡ Some (x, n)
     → (r : List ℕ) × (sofar j v ++ s ≡ decimal x ++ (end ∷ r)) × (n ≡ length (decimal x) + 1) × (x ≤ most)
 unfolding decimal_at
 decimal_from end most [] v j x n hm hz hl e = let z : ◌≡◌ {A = ℕ} 0 1 = cc in absurd (omega arith)
@@ -216,19 +213,19 @@ decimal_from end most (b ∷ s) v j x n hm hz hl e =
 
     go : (p o q r t u : Bool) → eqb b end ≡ p → eqb j 0 ≡ o → ltb b 48 ≡ q → ltb 57 b ≡ r → ltb most (v * 10 + (b - 48)) ≡ t
         → (ltb 0 j && eqb v 0) ≡ u
-        → cond p (cond o Bad (Good v (j + 1)))
-        (cond q Bad (cond r Bad (cond t Bad (cond u Bad (decimal_at end most (v * 10 + (b - 48)) (j + 1) s))))) ≡ Good x n
+        → cond p (cond o None (Some (v, j + 1)))
+        (cond q None (cond r None (cond t None (cond u None (decimal_at end most (v * 10 + (b - 48)) (j + 1) s))))) ≡ Some (x, n)
         → (v * 10 + (b - 48) ≤ most → (j + 1 ≡ 0 → v * 10 + (b - 48) ≡ 0) → length (sofar (j + 1) (v * 10 + (b - 48))) ≡ j + 1
-        → decimal_at end most (v * 10 + (b - 48)) (j + 1) s ≡ Good x n
+        → decimal_at end most (v * 10 + (b - 48)) (j + 1) s ≡ Some (x, n)
         → (r : List ℕ) × (sofar (j + 1) (v * 10 + (b - 48)) ++ s ≡ decimal x ++ (end ∷ r)) × (n ≡ length (decimal x) + 1) × (x ≤ most))
         → goal
     go true true q r t u hp ho hq hr ht hu e ih = let z : ◌≡◌ {A = ℕ} 0 1 = cc in absurd (omega arith)
     go true false q r t u hp ho hq hr ht hu e ih =
         let d = sofar_some v j (eqb-false j 0 ho) in
-        let y : v ≡ x = cc in
-        let w : j + 1 ≡ n = cc in
-        let k : length (decimal x) ≡ j = cc in
-        (s, rw (d, y, eqb-true b end hp), omega arith, omega arith)
+        let q = some_pair_parts v x (j + 1) n e in
+        let y = q.0 in
+        let k : length (decimal x) ≡ j = rw y at (ap length (sym d) ∙ hl) in
+        (s, rw (d, y, eqb-true b end hp), omega (arith, q.1), omega arith)
     go false o true r t u hp ho hq hr ht hu e ih = let z : ◌≡◌ {A = ℕ} 0 1 = cc in absurd (omega arith)
     go false o false true t u hp ho hq hr ht hu e ih = let z : ◌≡◌ {A = ℕ} 0 1 = cc in absurd (omega arith)
     go false o false false true u hp ho hq hr ht hu e ih = let z : ◌≡◌ {A = ℕ} 0 1 = cc in absurd (omega arith)
@@ -239,20 +236,15 @@ decimal_from end most (b ∷ s) v j x n hm hz hl e =
         let i = ih (ltb-false most (v * 10 + (b - 48)) ht) (λ z. absurd (omega arith)) k e in
         (i.0, sym (append_assoc (sofar j v) (b ∷ []) s) ∙ ap (λ (l : List ℕ). l ++ s) (sym m) ∙ i.1, i.2, i.3)
 
-pub decimal_only : (end most : ℕ) (s : List ℕ) (x n : ℕ) → decimal_at end most 0 0 s ≡ Good x n
+pub decimal_only : (end most : ℕ) (s : List ℕ) (x n : ℕ) → decimal_at end most 0 0 s ≡ Some (x, n)
     → (r : List ℕ) × (s ≡ decimal x ++ (end ∷ r)) × (n ≡ length (decimal x) + 1) × (x ≤ most)
 decimal_only end most s x n = decimal_from end most s 0 0 x n (omega arith) (λ h. refl) refl
 
 -- ---- lines
--- the reader `read` accepts a text just where it begins with the text of a value that is fine, and answers that value and the text's length;
--- `good` is the answer of a value and a length
-pub record ReadRule {A B : Type 0} (good : B → ℕ → A) (read : List ℕ → A) (fine : B → Type 0) (text_of : B → List ℕ) : Type 0 where
-  pub back : (v : B) → fine v → (rest : List ℕ) → read (text_of v ++ rest) ≡ good v (length (text_of v))
-  pub only : (s : List ℕ) (v : B) (n : ℕ) → read s ≡ good v n → fine v × (n ≡ length (text_of v)) × (s ≡ text_of v ++ drop n s)
-
--- the same of a reader whose values are numbers
-abbrev pub LineRule : (List ℕ → Line) → (ℕ → Type 0) → (ℕ → List ℕ) → Type 0
-LineRule read fine line_of = ReadRule Good read fine line_of
+-- the reader `read` accepts a text just where it begins with the text of a value that is fine, and answers that value and the text's length
+pub record ReadRule {T : Type 0} (read : List ℕ → Option (T × ℕ)) (fine : T → Type 0) (text_of : T → List ℕ) : Type 0 where
+  pub back : (v : T) → fine v → (rest : List ℕ) → read (text_of v ++ rest) ≡ Some (v, length (text_of v))
+  pub only : (s : List ℕ) (v : T) (n : ℕ) → read s ≡ Some (v, n) → fine v × (n ≡ length (text_of v)) × (s ≡ text_of v ++ drop n s)
 
 -- what follows the line is what is left at its length
 pub cut : (l r s : List ℕ) (n : ℕ) → s ≡ l ++ r → n ≡ length l → s ≡ l ++ drop n s
@@ -264,7 +256,7 @@ module _ (end : ℕ) (key : List ℕ) (least most : ℕ) where
   keyed v = key ++ (decimal v ++ (end ∷ []))
 
   keyed-back : end < 48 → (v : ℕ) → (least ≤ v) × (v ≤ most) → (rest : List ℕ)
-      → keyed_at end key least most (keyed v ++ rest) ≡ Good v (length (keyed v))
+      → keyed_at end key least most (keyed v ++ rest) ≡ Some (v, length (keyed v))
   keyed-back he v h rest =
       rw (
         append_assoc key (decimal v ++ (end ∷ [])) rest,
@@ -274,47 +266,47 @@ module _ (end : ℕ) (key : List ℕ) (least most : ℕ) where
         decimal-back end most v rest he h.1,
         le-ltb v least h.0,
       )
-      (ap (λ (n : ℕ). Good v n) (sym (simp length-append)))
+      (ap (λ (n : ℕ). Some (v, n)) (sym (simp length-append)))
 
-  pub keyed_only : (s : List ℕ) (v n : ℕ) → keyed_at end key least most s ≡ Good v n
+  pub keyed_only : (s : List ℕ) (v n : ℕ) → keyed_at end key least most s ≡ Some (v, n)
       → ((least ≤ v) × (v ≤ most)) × (n ≡ length (keyed v)) × (s ≡ keyed v ++ drop n s)
   keyed_only s v n e = go (begins s key) (decimal_at end most 0 0 (drop (length key) s)) refl refl e
     where
-      last : (x m : ℕ) → begins s key ≡ true → decimal_at end most 0 0 (drop (length key) s) ≡ Good x m → (p : Bool) → ltb x least ≡ p
-          → cond p Bad (Good x (length key + m)) ≡ Good v n
+      last : (x m : ℕ) → begins s key ≡ true → decimal_at end most 0 0 (drop (length key) s) ≡ Some (x, m) → (p : Bool) → ltb x least ≡ p
+          → cond {A = Option (ℕ × ℕ)} p None (Some (x, length key + m)) ≡ Some (v, n)
           → ((least ≤ v) × (v ≤ most)) × (n ≡ length (keyed v)) × (s ≡ keyed v ++ drop n s)
       last x m hb hd true hp e = let z : ◌≡◌ {A = ℕ} 0 1 = cc in absurd (omega arith)
       last x m hb hd false hp e =
           let d = decimal_only end most (drop (length key) s) x m hd in
-          let y : x ≡ v = cc in
-          let z : length key + m ≡ n = cc in
+          let q = some_pair_parts x v (length key + m) n e in
+          let y = q.0 in
           let k : length (keyed x) ≡ length key + (length (decimal x) + 1) = simp length-append in
           let f : s ≡ keyed x ++ d.0 =
           begins_only s key hb
           ∙ ap (λ (l : List ℕ). key ++ l) (d.1 ∙ sym (append_assoc (decimal x) (end ∷ []) d.0))
           ∙ sym (append_assoc key (decimal x ++ (end ∷ [])) d.0) in
-          let w : n ≡ length (keyed x) = omega (arith, d.2) in
+          let w : n ≡ length (keyed x) = omega (arith, q.1, d.2) in
           ((omega (arith, ltb-false x least hp), omega (arith, d.3)), rw (← y) w, rw (← y) (cut (keyed x) d.0 s n f w))
 
-      go : (p : Bool) (l : Line) → begins s key ≡ p → decimal_at end most 0 0 (drop (length key) s) ≡ l
-          → cond p (onLine l Bad (λ x m. cond (ltb x least) Bad (Good x (length key + m)))) Bad ≡ Good v n
+      go : (p : Bool) (l : Option (ℕ × ℕ)) → begins s key ≡ p → decimal_at end most 0 0 (drop (length key) s) ≡ l
+          → cond p (onRead {A = Option (ℕ × ℕ)} l None (λ x m. cond (ltb x least) None (Some (x, length key + m)))) None ≡ Some (v, n)
           → ((least ≤ v) × (v ≤ most)) × (n ≡ length (keyed v)) × (s ≡ keyed v ++ drop n s)
-      go true (Good x m) hb hd e = last x m hb hd (ltb x least) refl e
-      go true Bad hb hd e = let z : ◌≡◌ {A = ℕ} 0 1 = cc in absurd (omega arith)
+      go true (Some (x, m)) hb hd e = last x m hb hd (ltb x least) refl e
+      go true None hb hd e = let z : ◌≡◌ {A = ℕ} 0 1 = cc in absurd (omega arith)
       go false l hb hd e = let z : ◌≡◌ {A = ℕ} 0 1 = cc in absurd (omega arith)
 
-  pub keyed-rule : end < 48 → LineRule (keyed_at end key least most) (λ v. (least ≤ v) × (v ≤ most)) keyed
+  pub keyed-rule : end < 48 → ReadRule (keyed_at end key least most) (λ v. (least ≤ v) × (v ≤ most)) keyed
   keyed-rule he = record { back = keyed-back he; only = keyed_only }
 
 -- a line is the one that ends in LF
 pub decimal-rule : (key : List ℕ) (least most : ℕ)
-    → LineRule (decimal_line_at key least most) (λ v. (least ≤ v) × (v ≤ most)) (λ v. line key (decimal v))
+    → ReadRule (decimal_line_at key least most) (λ v. (least ≤ v) × (v ≤ most)) (λ v. line key (decimal v))
 unfolding decimal_line_at
 decimal-rule key least most = keyed-rule 10 key least most (omega arith)
 
 -- what is there is no longer than the text
-pub line-fits : {A B : Type 0} {good : B → ℕ → A} (read : List ℕ → A) (fine : B → Type 0) (line_of : B → List ℕ) → ReadRule good read fine line_of
-    → (s : List ℕ) (v : B) (n : ℕ) → read s ≡ good v n → n ≤ length s
+pub line-fits : {T : Type 0} (read : List ℕ → Option (T × ℕ)) (fine : T → Type 0) (line_of : T → List ℕ) → ReadRule read fine line_of
+    → (s : List ℕ) (v : T) (n : ℕ) → read s ≡ Some (v, n) → n ≤ length s
 line-fits read fine line_of rule s v n e =
     let o = rule.only s v n e in
     omega (arith, o.1, ap length o.2, length-append (line_of v) (drop n s))
@@ -325,20 +317,20 @@ tail s at = take_all (length s - at) (drop at s) (rw length-drop (omega arith))
 
 -- ---- lines taken off the front of a text, whatever is made of what follows; `bad` is the answer where no line is there
 -- a line that is there is taken off
-pub step : {R : Type 0} (bad : R) (read : List ℕ → Line) (fine : ℕ → Type 0) (line_of : ℕ → List ℕ) → LineRule read fine line_of
-    → (v : ℕ) → fine v → (rest : List ℕ) (f : ℕ → List ℕ → R)
-    → onLine (read (line_of v ++ rest)) bad (λ x n. f x (drop n (line_of v ++ rest))) ≡ f v rest
+pub step : {T R : Type 0} (bad : R) (read : List ℕ → Option (T × ℕ)) (fine : T → Type 0) (line_of : T → List ℕ) → ReadRule read fine line_of
+    → (v : T) → fine v → (rest : List ℕ) (f : T → List ℕ → R)
+    → onRead (read (line_of v ++ rest)) bad (λ x n. f x (drop n (line_of v ++ rest))) ≡ f v rest
 step bad read fine line_of rule v h rest f = rw (rule.back v h rest, drop-append_seam (line_of v) rest)
 
 -- a line was there, where the answer is not `bad`: its value, and what follows it
-pub taken : {R : Type 0} (bad : R) (read : List ℕ → Line) (fine : ℕ → Type 0) (line_of : ℕ → List ℕ) → LineRule read fine line_of
-    → (s : List ℕ) (f : ℕ → List ℕ → R) (r : R) → (bad ≡ r → ⊥) → onLine (read s) bad (λ x n. f x (drop n s)) ≡ r
-    → (v : ℕ) × (rest : List ℕ) × fine v × (s ≡ line_of v ++ rest) × (f v rest ≡ r)
-taken {R} bad read fine line_of rule s f r differ = go (read s) refl
+pub taken : {T R : Type 0} (bad : R) (read : List ℕ → Option (T × ℕ)) (fine : T → Type 0) (line_of : T → List ℕ) → ReadRule read fine line_of
+    → (s : List ℕ) (f : T → List ℕ → R) (r : R) → (bad ≡ r → ⊥) → onRead (read s) bad (λ x n. f x (drop n s)) ≡ r
+    → (v : T) × (rest : List ℕ) × fine v × (s ≡ line_of v ++ rest) × (f v rest ≡ r)
+taken {T} {R} bad read fine line_of rule s f r differ = go (read s) refl
   where
-    go : (l : Line) → read s ≡ l → onLine l bad (λ x n. f x (drop n s)) ≡ r
-        → (v : ℕ) × (rest : List ℕ) × fine v × (s ≡ line_of v ++ rest) × (f v rest ≡ r)
-    go (Good v n) h e =
+    go : (l : Option (T × ℕ)) → read s ≡ l → onRead l bad (λ x n. f x (drop n s)) ≡ r
+        → (v : T) × (rest : List ℕ) × fine v × (s ≡ line_of v ++ rest) × (f v rest ≡ r)
+    go (Some (v, n)) h e =
         let o = rule.only s v n h in
         (v, drop n s, o.0, o.2, e)
-    go Bad h e = absurd (differ e)
+    go None h e = absurd (differ e)

@@ -1,25 +1,21 @@
 -- The readers of a number with its sign and of a line of 24 such numbers accept just these. Assumes nothing.
 use Rattle.std.proofs.Math.Path.{◌≡◌, refl, ap, sym}
 use Rattle.std.proofs.Common.{◌∙◌, zero-lt-suc, le_of_suc-le-suc, not-suc-le-zero, add-zero, add-one, ne_eqb, take-suc-set}
-use Rattle.std.specs.Prelude.{Bool, ℤ, neg_ℤ, ◌-ℤ◌, set, take}
+use Rattle.std.specs.Prelude.{Bool, ℤ, neg_ℤ, ◌-ℤ◌, set, take, Option, Some, None}
 use Rattle.std.proofs.Math.Bool.{true, false, cond}
 use mathlib.Core.List.{List, [], ◌∷◌, ◌++◌, append_assoc, append-nil}
 use Prim.Native.Nat.{ℕ, zero, suc, ◌+◌, ◌*◌, ◌<◌, ◌≤◌, suc-le-suc}
 use native.Mathlib.Omega.{arith}
 use Rattle.std.proofs.Math.IntN.{pos, negsuc, +ℤ_idl}
+use Rattle.std.proofs.lemmas.Option.{none-some, some_pair_parts}
 use Rattle.std.specs.Int.Signed.{mag}
 use Rattle.std.proofs.Math.ListN.{length, drop, length-append}
 use Rattle.std.proofs.Math.Seq.{drop-append_seam}
-use Rattle.text.specs.declared.line.Line.{Line}
-use Rattle.text.specs.declared.line.Line.TheVariants as line-is
-use Rattle.text.specs.declared.list.Signed.{Signed}
-use Rattle.text.specs.declared.list.Signed.TheVariants.{Read, Bad}
-use Rattle.text.specs.declared.list.ListLine.{ListLine}
 use Rattle.text.specs.Text.{bytes, line, decimal, signed, commas, listed}
-use Rattle.text.specs.Lines.{onLine, begins, decimal_at, keyed_at}
-use Rattle.text.specs.Rows.{IsI32, AllI32, onSigned, below_at, signed_at, end_before, good_list, no_list, onList, numbers_from, list_line_at}
+use Rattle.text.specs.Lines.{onRead, begins, decimal_at, keyed_at}
+use Rattle.text.specs.Rows.{IsI32, AllI32, below_at, signed_at, end_before, numbers_from, list_line_at}
 use Rattle.text.specs.Laws.Text.{decimal-fits}
-use Rattle.text.specs.Laws.Lines.{ReadRule, LineRule, begins-back, begins_only, cut, decimal-back, decimal_only, keyed-rule}
+use Rattle.text.specs.Laws.Lines.{ReadRule, begins-back, begins_only, cut, decimal-back, decimal_only, keyed-rule}
 
 -- ---- a number with its sign
 -- a magnitude with a minus sign fits where one less does
@@ -28,73 +24,53 @@ minus_mag zero m h = omega arith
 minus_mag (suc n) m h = rw (+ℤ_idl (negsuc n)) (omega arith)
 
 module _ (end : ℕ) (he : end < 45) where
-  minus-rule : LineRule (keyed_at end (bytes "-") 1 2147483648) (λ v. (1 ≤ v) × (v ≤ 2147483648)) (λ v. bytes "-" ++ (decimal v ++ (end ∷ [])))
+  minus-rule : ReadRule (keyed_at end (bytes "-") 1 2147483648) (λ v. (1 ≤ v) × (v ≤ 2147483648)) (λ v. bytes "-" ++ (decimal v ++ (end ∷ [])))
   minus-rule = keyed-rule end (bytes "-") 1 2147483648 (omega arith)
 
   -- no figure is a minus sign
-  no_figure : (most : ℕ) (s : List ℕ) → decimal_at end most 0 0 (45 ∷ s) ≡ line-is.Bad
+  no_figure : (most : ℕ) (s : List ℕ) → decimal_at end most 0 0 (45 ∷ s) ≡ None
   unfolding decimal_at
   no_figure most s = rw (ne_eqb 45 end (λ e. omega arith))
 
-  signed_back : (z : ℤ) → IsI32 z → (rest : List ℕ) → signed_at end ((signed z ++ (end ∷ [])) ++ rest) ≡ Read z (length (signed z ++ (end ∷ [])))
+  signed_back : (z : ℤ) → IsI32 z → (rest : List ℕ) → signed_at end ((signed z ++ (end ∷ [])) ++ rest) ≡ Some (z, length (signed z ++ (end ∷ [])))
   unfolding signed_at below_at signed
   signed_back (pos n) h rest =
       rw (append_assoc (decimal n) (end ∷ []) rest, decimal-back end 2147483647 n rest (omega arith) (omega arith))
-      (ap (Read (pos n)) (sym (length-append (decimal n) (end ∷ []))))
+      (ap (λ (m : ℕ). Some (pos n, m)) (sym (length-append (decimal n) (end ∷ []))))
   signed_back (negsuc n) h rest =
       rw (no_figure 2147483647 ((decimal (suc n) ++ (end ∷ [])) ++ rest), minus-rule.back (suc n) (omega arith, omega arith) rest)
 
-  signed_only : (s : List ℕ) (z : ℤ) (n : ℕ) → signed_at end s ≡ Read z n
+  signed_only : (s : List ℕ) (z : ℤ) (n : ℕ) → signed_at end s ≡ Some (z, n)
       → IsI32 z × (n ≡ length (signed z ++ (end ∷ []))) × (s ≡ (signed z ++ (end ∷ [])) ++ drop n s)
   unfolding signed_at below_at signed
   signed_only s z n e = go (decimal_at end 2147483647 0 0 s) (keyed_at end (bytes "-") 1 2147483648 s) refl refl e
     where
-      go : (l k : Line) → decimal_at end 2147483647 0 0 s ≡ l → keyed_at end (bytes "-") 1 2147483648 s ≡ k
-          → onLine l (onLine k Bad (λ v m. Read (neg_ℤ (pos v)) m)) (λ v m. Read (pos v) m) ≡ Read z n
+      go : (l k : Option (ℕ × ℕ)) → decimal_at end 2147483647 0 0 s ≡ l → keyed_at end (bytes "-") 1 2147483648 s ≡ k
+          → onRead {A = Option (ℤ × ℕ)} l (onRead k None (λ v m. Some (neg_ℤ (pos v), m))) (λ v m. Some (pos v, m)) ≡ Some (z, n)
           → IsI32 z × (n ≡ length (signed z ++ (end ∷ []))) × (s ≡ (signed z ++ (end ∷ [])) ++ drop n s)
-      go (line-is.Good v m) k hl hk e =
+      go (Some (v, m)) k hl hk e =
           let d = decimal_only end 2147483647 s v m hl in
-          let y : pos v ≡ z = cc in
-          let w : m ≡ n = cc in
+          let p = some_pair_parts (pos v) z m n e in
+          let y = p.0 in
+          let w = p.1 in
           let f : s ≡ (decimal v ++ (end ∷ [])) ++ d.0 = d.1 ∙ sym (append_assoc (decimal v) (end ∷ []) d.0) in
           let g : n ≡ length (decimal v ++ (end ∷ [])) = omega (arith, d.2, length-append (decimal v) (end ∷ [])) in
           rw (← y) (omega (arith, d.3), g, cut (decimal v ++ (end ∷ [])) d.0 s n f g)
-      go line-is.Bad (line-is.Good zero m) hl hk e = absurd (omega (arith, (minus-rule.only s zero m hk).0.0))
-      go line-is.Bad (line-is.Good (suc v) m) hl hk e =
+      go None (Some (zero, m)) hl hk e = absurd (omega (arith, (minus-rule.only s zero m hk).0.0))
+      go None (Some (suc v, m)) hl hk e =
           let o = minus-rule.only s (suc v) m hk in
-          let y : negsuc v ≡ z = cc in
-          let w : m ≡ n = cc in
+          let p = some_pair_parts (negsuc v) z m n e in
+          let y = p.0 in
+          let w = p.1 in
           rw (← y, ← w) (omega (arith, o.0.1), o.1, o.2)
-      go line-is.Bad line-is.Bad hl hk e = let z : ◌≡◌ {A = ℕ} 0 1 = cc in absurd (omega arith)
+      go None None hl hk e = let z : ◌≡◌ {A = ℕ} 0 1 = cc in absurd (omega arith)
 
-  pub signed-rule : ReadRule Read (signed_at end) IsI32 (λ z. signed z ++ (end ∷ []))
+  pub signed-rule : ReadRule (signed_at end) IsI32 (λ z. signed z ++ (end ∷ []))
   signed-rule = record { back = signed_back; only = signed_only }
 
 pub end_small : (n : ℕ) → end_before n < 45
 end_small zero = omega arith
 end_small (suc n) = omega arith
-
--- ---- a row's answer
--- none is no row
-pub no_row : {zs : List ℤ} {n : ℕ} → no_list ≡ good_list zs n → ⊥
-no_row e =
-    let b : false ≡ true = ap (λ (l : ListLine). l.good) e in
-    let z : ◌≡◌ {A = ℕ} 0 1 = cc in
-    omega arith
-
--- a row that is there
-pub row-good : (l : ListLine) → l.good ≡ true → l ≡ good_list l.values l.length
-row-good l e = ap (λ (b : Bool). record { good = b; length = l.length; values = l.values }) e
-
--- a row was there, where what is made of it is not `bad`
-pub row-taken : {R : Type 0} (bad : R) (l : ListLine) (f : List ℤ → ℕ → R) (r : R) → (bad ≡ r → ⊥) → onList l bad f ≡ r
-    → (l ≡ good_list l.values l.length) × (f l.values l.length ≡ r)
-row-taken {R} bad l f r differ = go l.good refl
-  where
-    go : (b : Bool) → l.good ≡ b → cond b (f l.values l.length) bad ≡ r
-        → (l ≡ good_list l.values l.length) × (f l.values l.length ≡ r)
-    go true h e = (row-good l h, e)
-    go false h e = absurd (differ e)
 
 -- ---- a row of them
 -- each number with the byte behind it
@@ -116,7 +92,7 @@ pub row_more : (A : Type 0) (xs : List A) (k : ℕ) (v : A) → k < length xs �
 row_more A xs k v h = rw (add-one k) (sym (take-suc-set xs k v h))
 
 numbers-back : (zs : List ℤ) → AllI32 zs → (us : List ℤ) (at : ℕ) (rest : List ℕ)
-    → numbers_from (length zs) us at (ended zs ++ rest) ≡ good_list (us ++ zs) (at + length (ended zs))
+    → numbers_from (length zs) us at (ended zs ++ rest) ≡ Some (us ++ zs, at + length (ended zs))
 unfolding numbers_from
 numbers-back [] f us at rest = rw (append-nil us, add-zero)
 numbers-back (z ∷ zs) f us at rest =
@@ -141,27 +117,27 @@ record Row (n : ℕ) (us : List ℤ) (at : ℕ) (s : List ℕ) (vs : List ℤ) (
   place : m ≡ at + length (ended zs)
   text : s ≡ ended zs ++ rest
 
-numbers_only : (n : ℕ) (us : List ℤ) (at : ℕ) (s : List ℕ) (vs : List ℤ) (m : ℕ) → numbers_from n us at s ≡ good_list vs m → Row n us at s vs m
+numbers_only : (n : ℕ) (us : List ℤ) (at : ℕ) (s : List ℕ) (vs : List ℤ) (m : ℕ) → numbers_from n us at s ≡ Some (vs, m) → Row n us at s vs m
 unfolding numbers_from
 numbers_only zero us at s vs m e =
-    let n : at ≡ m = ap (λ (l : ListLine). l.length) e in
+    let p = some_pair_parts us vs at m e in
     record {
       zs = [];
       rest = s;
       count = refl;
       fit = λ k l. absurd (not-suc-le-zero l);
-      values = append-nil us ∙ ap (λ (l : ListLine). l.values) e;
-      place = omega arith;
+      values = append-nil us ∙ p.0;
+      place = omega (arith, p.1);
       text = refl;
     }
 numbers_only (suc n) us at s vs m e =
     go (signed_at (end_before n) s) refl e (λ z k. numbers_only n (us ++ (z ∷ [])) (at + k) (drop k s) vs m)
   where
-    go : (a : Signed) → signed_at (end_before n) s ≡ a → onSigned a no_list (λ z k. numbers_from n (us ++ (z ∷ [])) (at + k) (drop k s)) ≡ good_list vs m
-        → ((z : ℤ) (k : ℕ) → numbers_from n (us ++ (z ∷ [])) (at + k) (drop k s) ≡ good_list vs m
+    go : (a : Option (ℤ × ℕ)) → signed_at (end_before n) s ≡ a → onRead a None (λ z k. numbers_from n (us ++ (z ∷ [])) (at + k) (drop k s)) ≡ Some (vs, m)
+        → ((z : ℤ) (k : ℕ) → numbers_from n (us ++ (z ∷ [])) (at + k) (drop k s) ≡ Some (vs, m)
         → Row n (us ++ (z ∷ [])) (at + k) (drop k s) vs m)
         → Row (suc n) us at s vs m
-    go (Read z k) h e ih =
+    go (Some (z, k)) h e ih =
         let i = ih z k e in
         let o = (signed-rule (end_before n) (end_small n)).only s z k h in
         let first = signed z ++ (end_before n ∷ []) in
@@ -177,7 +153,7 @@ numbers_only (suc n) us at s vs m e =
               o.2 ∙ ap (λ (l : List ℕ). first ++ l) i.text ∙ sym (append_assoc first (ended i.zs) i.rest)
               ∙ ap (λ (l : List ℕ). l ++ i.rest) (sym f);
         }
-    go Bad h e ih = absurd (no_row e)
+    go None h e ih = absurd (none-some _ e)
 
 -- ---- how long they are
 pub signed-length : (z : ℤ) → IsI32 z → length (signed z) ≤ 11
@@ -210,10 +186,10 @@ listed-length (z ∷ zs) h f =
 -- ---- the line
 module _ (key : List ℕ) where
   list_back : (zs : List ℤ) → (length zs ≡ 24) × AllI32 zs → (rest : List ℕ)
-      → list_line_at key (line key (listed zs) ++ rest) ≡ good_list zs (length (line key (listed zs)))
+      → list_line_at key (line key (listed zs) ++ rest) ≡ Some (zs, length (line key (listed zs)))
   unfolding list_line_at
   list_back zs h rest =
-      let n : numbers_from 24 [] (length key) (ended zs ++ rest) ≡ good_list zs (length key + length (ended zs)) =
+      let n : numbers_from 24 [] (length key) (ended zs ++ rest) ≡ Some (zs, length key + length (ended zs)) =
       rw h.0 at (numbers-back zs h.1 [] (length key) rest) in
       rw (
         append_assoc key (listed zs ++ (10 ∷ [])) rest,
@@ -224,12 +200,12 @@ module _ (key : List ℕ) where
       )
       n
 
-  list_only : (s : List ℕ) (vs : List ℤ) (m : ℕ) → list_line_at key s ≡ good_list vs m
+  list_only : (s : List ℕ) (vs : List ℤ) (m : ℕ) → list_line_at key s ≡ Some (vs, m)
       → ((length vs ≡ 24) × AllI32 vs) × (m ≡ length (line key (listed vs))) × (s ≡ line key (listed vs) ++ drop m s)
   unfolding list_line_at
   list_only s vs m e = go (begins s key) refl e
     where
-      go : (p : Bool) → begins s key ≡ p → cond p (numbers_from 24 [] (length key) (drop (length key) s)) no_list ≡ good_list vs m
+      go : (p : Bool) → begins s key ≡ p → cond p (numbers_from 24 [] (length key) (drop (length key) s)) None ≡ Some (vs, m)
           → ((length vs ≡ 24) × AllI32 vs) × (m ≡ length (line key (listed vs))) × (s ≡ line key (listed vs) ++ drop m s)
       go true h e =
           let i = numbers_only 24 [] (length key) (drop (length key) s) vs m e in
@@ -241,8 +217,8 @@ module _ (key : List ℕ) where
           let g : m ≡ length (line key (listed i.zs)) =
           omega (arith, i.place, ap length d, length-append key (listed i.zs ++ (10 ∷ []))) in
           rw (← i.values) ((i.count, i.fit), g, cut (line key (listed i.zs)) i.rest s m f g)
-      go false h e = absurd (no_row e)
+      go false h e = absurd (none-some _ e)
 
   -- it accepts just the lines of the key and 24 numbers, and answers the numbers
-  pub list-rule : ReadRule good_list (list_line_at key) (λ zs. (length zs ≡ 24) × AllI32 zs) (λ zs. line key (listed zs))
+  pub list-rule : ReadRule (list_line_at key) (λ zs. (length zs ≡ 24) × AllI32 zs) (λ zs. line key (listed zs))
   list-rule = record { back = list_back; only = list_only }

@@ -4,7 +4,7 @@ use mathlib.Core.Path.{◌≡◌, sym, ap, ◌∙◌}
 use mathlib.Core.List.{List}
 use Prim.Native.Nat.{ℕ, ◌-◌, ◌≤◌}
 use lib.ListN.{length, take, drop}
-use Rattle.text.specs.declared.line.Line.TheVariants.{Good}
+use Rattle.std.specs.Prelude.{Some}
 use Rattle.text.specs.Text.{bytes}
 use Rattle.text.specs.Lines.{decimal_line_at}
 use Rattle.text.specs.Laws.Lines.{decimal-rule, tail, line-fits}
@@ -13,7 +13,7 @@ use Rattle.trace.specs.Reader.{blocks_at, trace_in}
 use Rattle.trace.proofs.parse.Goals as goal
 
 -- ---- the num line is there: its value, and its length
-module _ (s : List ℕ) (num n : ℕ) (first : decimal_line_at (bytes "num=") 0 4294967295 s ≡ Good num n) where
+module _ (s : List ℕ) (num n : ℕ) (first : decimal_line_at (bytes "num=") 0 4294967295 s ≡ Some (num, n)) where
   fits : n ≤ length s
   fits = line-fits _ _ _ (decimal-rule (bytes "num=") 0 4294967295) s num n first
 
@@ -32,13 +32,13 @@ returns-in_default c =
     c.refused.ensures ∙ rw e
 
 pub slice_bounds-blocks_of-count : goal.slice_bounds-blocks_of-count
-slice_bounds-blocks_of-count c = fits c.args.text.now _ _ (sym c.decimal_line.ensures ∙ c.in-Good.is)
+slice_bounds-blocks_of-count c = fits c.args.text.now _ _ (sym c.decimal_line.ensures ∙ c.in-Some.is)
 
 pub slice_bounds-blocks_of-start : goal.slice_bounds-blocks_of-start
-slice_bounds-blocks_of-start c = fits c.args.text.now _ _ (sym c.decimal_line.ensures ∙ c.in-Good.is)
+slice_bounds-blocks_of-start c = fits c.args.text.now _ _ (sym c.decimal_line.ensures ∙ c.in-Some.is)
 
 pub overflow_cast-num : goal.overflow_cast-num
-overflow_cast-num c = omega (arith, num_most c.args.text.now _ _ (sym c.decimal_line.ensures ∙ c.in-Good.is))
+overflow_cast-num c = omega (arith, num_most c.args.text.now _ _ (sym c.decimal_line.ensures ∙ c.in-Some.is))
 
 pub returns : goal.returns
-returns c = c.blocks_of.ensures ∙ ap traced_of (behind c.args.text.now _ _ (sym c.decimal_line.ensures ∙ c.in-Good.is))
+returns c = c.blocks_of.ensures ∙ ap traced_of (behind c.args.text.now _ _ (sym c.decimal_line.ensures ∙ c.in-Some.is))

@@ -1,21 +1,19 @@
 -- The reader of a block accepts just the two lines of a block, and blocks are taken off the front of a text one by one. Assumes nothing.
-use Rattle.std.specs.Prelude.{◌≡◌, Bool, true, false, ℕ, zero, suc, ◌+◌, ◌*◌, ◌-◌, ◌<◌, ◌≤◌, ltb, ℤ, pos, take, get_or}
+use Rattle.std.specs.Prelude.{◌≡◌, Bool, true, false, ℕ, zero, suc, ◌+◌, ◌*◌, ◌-◌, ◌<◌, ◌≤◌, ltb, ℤ, pos, take, get_or, Option, Some, None}
 use Rattle.std.proofs.Math.Path.{refl, ap, sym}
+use Rattle.std.proofs.lemmas.Option.{none-some, some_pair_parts}
 use Rattle.std.proofs.Common.{ap₂, ◌∙◌, not-suc-le-zero, ltb-true, ltb-false, length-drop, take-append-drop, take_at, drop_at, length-take-le, get_or-drop}
 use mathlib.Core.List.{List, [], ◌∷◌, ◌++◌, append_assoc}
 use native.Mathlib.Omega.{arith}
 use Rattle.std.proofs.Math.ListN.{length, drop, length-append, get_or-append}
 use Rattle.std.proofs.Math.Seq.{drop-append_seam}
 use Rattle.laws.specs.Laws.Lists.{append_past}
-use Rattle.text.specs.declared.line.Line.{Line}
-use Rattle.text.specs.declared.line.Line.TheVariants.{Good, Bad}
-use Rattle.text.specs.declared.list.ListLine.{ListLine}
 use Rattle.text.specs.Text.{bytes, line, decimal, listed}
-use Rattle.text.specs.Lines.{onLine, decimal_line_at}
-use Rattle.text.specs.Rows.{IsI32, AllI32, good_list, no_list, onList, list_line_at}
-use Rattle.text.specs.Laws.Lines.{ReadRule, cut, decimal-rule}
+use Rattle.text.specs.Lines.{onRead, decimal_line_at}
+use Rattle.text.specs.Rows.{IsI32, AllI32, list_line_at}
+use Rattle.text.specs.Laws.Lines.{ReadRule, cut, taken, decimal-rule}
 use Rattle.text.specs.Laws.Text.{decimal-fits}
-use Rattle.text.specs.Laws.Rows.{no_row, row-taken, list-rule, listed-length}
+use Rattle.text.specs.Laws.Rows.{list-rule, listed-length}
 use Rattle.shown.specs.Shown.{block_text, block_texts}
 use Rattle.trace.specs.Answer.{Reading, trace, malformed}
 use Rattle.trace.specs.Reader.{block_at, behind, blocks_at}
@@ -27,7 +25,7 @@ differ e = let z : ◌≡◌ {A = ℕ} 0 1 = cc in omega arith
 -- ---- a block
 module _ (i : ℕ) where
   block_back : (zs : List ℤ) → (length zs ≡ 24) × AllI32 zs → (rest : List ℕ)
-      → block_at i (block_text i zs ++ rest) ≡ good_list zs (length (block_text i zs))
+      → block_at i (block_text i zs ++ rest) ≡ Some (zs, length (block_text i zs))
   unfolding block_at block_text
   block_back zs h rest =
       let first = line (bytes "block=") (decimal i) in
@@ -40,18 +38,19 @@ module _ (i : ℕ) where
         length-append first second,
       )
 
-  block_only : (s : List ℕ) (zs : List ℤ) (n : ℕ) → block_at i s ≡ good_list zs n
+  block_only : (s : List ℕ) (zs : List ℤ) (n : ℕ) → block_at i s ≡ Some (zs, n)
       → ((length zs ≡ 24) × AllI32 zs) × (n ≡ length (block_text i zs)) × (s ≡ block_text i zs ++ drop n s)
   unfolding block_at block_text
   block_only s zs n e = go (decimal_line_at (bytes "block=") i i s) refl e
     where
       -- the first line is of x and has k bytes, the second is of ys and has m
-      last : (x k : ℕ) (ys : List ℤ) (m : ℕ) → decimal_line_at (bytes "block=") i i s ≡ Good x k
-          → list_line_at (bytes "counts=") (drop k s) ≡ good_list ys m → good_list ys (k + m) ≡ good_list zs n
+      last : (x k : ℕ) (ys : List ℤ) (m : ℕ) → decimal_line_at (bytes "block=") i i s ≡ Some (x, k)
+          → list_line_at (bytes "counts=") (drop k s) ≡ Some (ys, m) → ◌≡◌ {A = Option (List ℤ × ℕ)} (Some (ys, k + m)) (Some (zs, n))
           → ((length zs ≡ 24) × AllI32 zs) × (n ≡ length (block_text i zs)) × (s ≡ block_text i zs ++ drop n s)
       last x k ys m h g e =
-          let v : ys ≡ zs = ap (λ (r : ListLine). r.values) e in
-          let w : k + m ≡ n = ap (λ (r : ListLine). r.length) e in
+          let p = some_pair_parts ys zs (k + m) n e in
+          let v = p.0 in
+          let w = p.1 in
           let a = (decimal-rule (bytes "block=") i i).only s x k h in
           let b = (list-rule (bytes "counts=")).only (drop k s) ys m g in
           let j : x ≡ i = omega (arith, a.0.0, a.0.1) in
@@ -64,16 +63,19 @@ module _ (i : ℕ) where
           let q : s ≡ (first ++ second) ++ rest = f ∙ ap (λ (r : List ℕ). first ++ r) d ∙ sym (append_assoc first second rest) in
           (rw v at b.0, l, cut (first ++ second) rest s n q l)
 
-      go : (x : Line) → decimal_line_at (bytes "block=") i i s ≡ x
-          → onLine x no_list (λ v k. onList (list_line_at (bytes "counts=") (drop k s)) no_list (λ ys m. good_list ys (k + m))) ≡ good_list zs n
+      row : (x k : ℕ) (y : Option (List ℤ × ℕ)) → decimal_line_at (bytes "block=") i i s ≡ Some (x, k)
+          → list_line_at (bytes "counts=") (drop k s) ≡ y → onRead {A = Option (List ℤ × ℕ)} y None (λ ys m. Some (ys, k + m)) ≡ Some (zs, n)
           → ((length zs ≡ 24) × AllI32 zs) × (n ≡ length (block_text i zs)) × (s ≡ block_text i zs ++ drop n s)
-      go (Good x k) h e =
-          let r = list_line_at (bytes "counts=") (drop k s) in
-          let t = row-taken no_list r (λ ys m. good_list ys (k + m)) (good_list zs n) no_row e in
-          last x k r.values r.length h t.0 t.1
-      go Bad h e = absurd (no_row e)
+      row x k (Some (ys, m)) h g e = last x k ys m h g e
+      row x k None h g e = absurd (none-some _ e)
 
-  pub block-rule : ReadRule good_list (block_at i) (λ zs. (length zs ≡ 24) × AllI32 zs) (block_text i)
+      go : (x : Option (ℕ × ℕ)) → decimal_line_at (bytes "block=") i i s ≡ x
+          → onRead {A = Option (List ℤ × ℕ)} x None (λ v k. onRead (list_line_at (bytes "counts=") (drop k s)) None (λ ys m. Some (ys, k + m))) ≡ Some (zs, n)
+          → ((length zs ≡ 24) × AllI32 zs) × (n ≡ length (block_text i zs)) × (s ≡ block_text i zs ++ drop n s)
+      go (Some (x, k)) h e = row x k (list_line_at (bytes "counts=") (drop k s)) h refl e
+      go None h e = absurd (none-some _ e)
+
+  pub block-rule : ReadRule (block_at i) (λ zs. (length zs ≡ 24) × AllI32 zs) (block_text i)
   block-rule = record { back = block_back; only = block_only }
 
 -- ---- blocks in a row
@@ -96,7 +98,7 @@ blocks_full num i (b ∷ s) h = refl
 
 -- a block is, and what follows it
 pub blocks-next : (num i n : ℕ) (s : List ℕ) → 0 < length s
-    → blocks_at num i (suc n) s ≡ onList (block_at i s) malformed (λ zs m. behind 1 zs (blocks_at num (suc i) n (drop m s)))
+    → blocks_at num i (suc n) s ≡ onRead (block_at i s) malformed (λ zs m. behind 1 zs (blocks_at num (suc i) n (drop m s)))
 unfolding blocks_at
 blocks-next num i n [] h = absurd (omega arith)
 blocks-next num i n (b ∷ s) h = refl
@@ -167,13 +169,12 @@ only_none num i n x count samples e =
     rw (← c, ← z) (record { num_is = y; few = omega arith; size = refl; fit = λ k l. absurd (not-suc-le-zero l); text = refl })
 
 -- one more block in front
-only_more : (num i n : ℕ) (s : List ℕ) (zs : List ℤ) (m x count : ℕ) (samples : List ℤ)
-    → ((length zs ≡ 24) × AllI32 zs) × (m ≡ length (block_text i zs)) × (s ≡ block_text i zs ++ drop m s)
-    → (R : Reading) → behind 1 zs R ≡ trace x count samples
-    → ((y c : ℕ) (ss : List ℤ) → R ≡ trace y c ss → Blocks num (suc i) n (drop m s) y c ss)
+only_more : (num i n : ℕ) (s : List ℕ) (zs : List ℤ) (rest : List ℕ) (x count : ℕ) (samples : List ℤ)
+    → (length zs ≡ 24) × AllI32 zs → s ≡ block_text i zs ++ rest → (R : Reading) → behind 1 zs R ≡ trace x count samples
+    → ((y c : ℕ) (ss : List ℤ) → R ≡ trace y c ss → Blocks num (suc i) n rest y c ss)
     → Blocks num i (suc n) s x count samples
 unfolding block_texts
-only_more num i n s zs m x count samples o (trace y c ss) e ih =
+only_more num i n s zs rest x count samples o f (trace y c ss) e ih =
     let b = ih y c ss refl in
     let p : y ≡ x = cc in
     let q : 1 + c ≡ count = cc in
@@ -182,13 +183,13 @@ only_more num i n s zs m x count samples o (trace y c ss) e ih =
     rw (r, ← v) (record {
       num_is = b.num_is ∙ p;
       few = omega (arith, b.few);
-      size = length-append zs ss ∙ omega (arith, o.0.0, b.size);
-      fit = both_fit zs ss o.0.1 b.fit;
+      size = length-append zs ss ∙ omega (arith, o.0, b.size);
+      fit = both_fit zs ss o.1 b.fit;
       text =
-          rw (take_at zs ss 24 o.0.0, drop_at zs ss 24 o.0.0)
-          (o.2 ∙ ap (λ (l : List ℕ). block_text i zs ++ l) b.text);
+          rw (take_at zs ss 24 o.0, drop_at zs ss 24 o.0)
+          (f ∙ ap (λ (l : List ℕ). block_text i zs ++ l) b.text);
     })
-only_more num i n s zs m x count samples o malformed e ih = absurd (differ e)
+only_more num i n s zs rest x count samples o f malformed e ih = absurd (differ e)
 
 pub blocks_only : (num i n : ℕ) (s : List ℕ) (x count : ℕ) (samples : List ℤ) → blocks_at num i n s ≡ trace x count samples
     → Blocks num i n s x count samples
@@ -197,10 +198,8 @@ blocks_only num i zero [] x count samples e = only_none num i zero x count sampl
 blocks_only num i zero (b ∷ s) x count samples e = absurd (differ e)
 blocks_only num i (suc n) [] x count samples e = only_none num i (suc n) x count samples e
 blocks_only num i (suc n) (b ∷ s) x count samples e =
-    let l = block_at i (b ∷ s) in
-    let t = row-taken malformed l (λ zs m. behind 1 zs (blocks_at num (suc i) n (drop m (b ∷ s)))) (trace x count samples) differ e in
-    only_more num i n (b ∷ s) l.values l.length x count samples ((block-rule i).only (b ∷ s) l.values l.length t.0)
-    (blocks_at num (suc i) n (drop l.length (b ∷ s))) t.1 (blocks_only num (suc i) n (drop l.length (b ∷ s)))
+    let t = taken malformed (block_at i) _ (block_text i) (block-rule i) (b ∷ s) (λ zs rest. behind 1 zs (blocks_at num (suc i) n rest)) (trace x count samples) differ e in
+    only_more num i n (b ∷ s) t.0 t.1 x count samples t.2 t.3 (blocks_at num (suc i) n t.1) t.4 (blocks_only num (suc i) n t.1)
 
 -- ---- how long they are
 -- a block whose index has at most d figures

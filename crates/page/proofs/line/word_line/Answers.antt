@@ -31,20 +31,20 @@ slice_bounds-hex-count c = key_fits _ _ (key (goal.at.slice_bounds-hex-count c).
 pub slice_bounds-hex-start : goal.slice_bounds-hex-start
 slice_bounds-hex-start c = key_fits _ _ (key (goal.at.slice_bounds-hex-start c).Else-not-starts)
 
-pub returns-in_default : goal.returns-in_default
+pub returns-in_err-w : goal.returns-in_err-w
 unfolding word_line_at
-returns-in_default c =
-    let e = sym (digits (goal.at.returns-in_default c).After-hex) ∙ c.in_default.is in
-    rw (key (goal.at.returns-in_default c).Else-not-starts, e)
+returns-in_err-w c =
+    let e = sym (digits (goal.at.returns-in_err-w c).After-hex) ∙ c.in_err-w.was in
+    rw (key (goal.at.returns-in_err-w c).Else-not-starts, e) c.from_residual.ensures
 
 pub returns-then-byte_at-ne10 : goal.returns-then-byte_at-ne10
 unfolding word_line_at
 returns-then-byte_at-ne10 c =
-    let e = sym (digits (goal.at.returns-then-byte_at-ne10 c).After-hex) ∙ c.in-Value.is in
+    let e = sym (digits (goal.at.returns-then-byte_at-ne10 c).After-hex) ∙ c.in_ok-w.was in
     rw (key (goal.at.returns-then-byte_at-ne10 c).Else-not-starts, e, ← c.byte_at.ensures, ne_eqb _ _ c.if-byte_at-ne10.true)
 
 pub returns : goal.returns
 unfolding word_line_at
 returns c =
-    let e = sym (digits (goal.at.returns c).After-hex) ∙ c.in-Value.is in
+    let e = sym (digits (goal.at.returns c).After-hex) ∙ c.in_ok-w.was in
     rw (key (goal.at.returns c).Else-not-starts, e, ← c.byte_at.ensures, eq-eqb _ _ c.if-byte_at-ne10.false)

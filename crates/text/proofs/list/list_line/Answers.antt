@@ -11,7 +11,7 @@ unfolding list_line_at
 returns-then-not-starts c =
     let a = c.args in
     let k : begins a.s.now a.key.now ≡ false = sym c.starts.ensures ∙ c.if-not-starts.true in
-    rw k c.no_list.ensures
+    rw k
 
 pub numbers-requires : goal.numbers-requires
 numbers-requires c = key_fits _ _ (sym c.starts.ensures ∙ c.if-not-starts.false)

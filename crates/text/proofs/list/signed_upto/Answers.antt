@@ -14,11 +14,11 @@ returns-in_default c = rw (← c.in_default.ensures) c.below_zero.ensures
 pub overflow_cast-result : goal.overflow_cast-result
 overflow_cast-result c =
     let a = c.args in
-    record { sfits = omega (arith, (decimal_only a.end 2147483647 a.s.now _ _ (sym c.in-Good.ensures)).3) }
+    record { sfits = omega (arith, (decimal_only a.end 2147483647 a.s.now _ _ (sym c.in-Some.ensures)).3) }
 
 pub returns : goal.returns
 unfolding signed_at
 returns c =
     let a = c.args in
-    let m = (decimal_only a.end 2147483647 a.s.now _ _ (sym c.in-Good.ensures)).3 in
-    rw (← c.in-Good.ensures, to_z_pos w32 {n = c.in-Good.v} (omega (arith, m)))
+    let m = (decimal_only a.end 2147483647 a.s.now _ _ (sym c.in-Some.ensures)).3 in
+    rw (← c.in-Some.ensures, to_z_pos w32 {n = c.in-Some.v} (omega (arith, m)))
