@@ -1,5 +1,5 @@
 -- The answer to a request line: a line of text for every line of bytes. Assumes nothing.
-use Rattle.std.specs.Prelude.{cond, ◌&&◌, List, ◌++◌, ℕ, ◌-◌, ltb, eqb, ℤ, Float, length, replicate}
+use Rattle.std.specs.Prelude.{cond, ◌&&◌, List, ◌++◌, ℕ, ltb, eqb, ℤ, Float, length}
 use Prim.Native.String.{String}
 use Rattle.refusal.specs.Refusal.{no_page}
 use Rattle.text.specs.Text.{bytes, line, decimal, listed, hex, refused_text}
@@ -16,7 +16,6 @@ use Rattle.encoder.specs.Encode.{encode_at_over, encode_over}
 use Rattle.encoder.specs.declared.Code.{Code}
 use Rattle.request.specs.Words.{after_name, hex_after, decimal_after, double_after, onNumber}
 use Rattle.request.specs.Rows.{samples_after, point_after, onDouble}
-use Rattle.answers.specs.declared.Reply.{Reply}
 
 -- ---- lines
 -- a line that is no request is refused as a text that is no page is: with 9
@@ -115,7 +114,3 @@ of_samples s = named "auto" auto_answer s (named "lower" lower_answer s (named "
 
 unfoldable pub answer_of : List ℕ → List ℕ
 answer_of s = named "decode" decode_answer s (named "point" point_answer s (named "scale" scale_answer s (of_samples s)))
-
--- a text in an array of 336 bytes, with zeros behind it
-unfoldable pub in_line : List ℕ → Reply
-in_line text = record { length = length text; bytes = text ++ replicate (336 - length text) 0 }

@@ -15,12 +15,12 @@
 // public. Its requests of samples are `scale` and `auto` over fewer points: so these are public too, and are told whether odd points are searched.
 #![tactic(auto)]
 
-ghost use Rattle.std.specs.Prelude.{◌≡◌, ◌≤◌};
+ghost use Rattle.std.specs.Prelude.{◌≡◌};
 ghost use Rattle.text.specs.Text.{refused_text};
 ghost use Rattle.search.specs.Parity.{parities_of};
 ghost use Rattle.answers.specs.Answers.{no_request, point_line, refused_point, encoded_line, code_line, scales_line, score_line};
 ghost use Rattle.answers.specs.Answers.{decode_answer, point_answer, setting_of, scale_over, auto_over, lower_answer, score_answer};
-ghost use Rattle.answers.specs.Answers.{of_samples, answer_of, in_line};
+ghost use Rattle.answers.specs.Answers.{of_samples, answer_of};
 
 use encoder::Code;
 use request::{
@@ -28,121 +28,115 @@ use request::{
 };
 use score::{Scales, Scored};
 use tetra::Encoded;
-use text::{put, put_decimal, put_double, put_hex, put_line, put_list};
+use text::Printed;
 
-// A line of at most 336 bytes: how many there are, its LF included, and the bytes, with zeros behind them.
-#[derive(Clone, Copy)]
-pub struct Reply {
-    pub length: usize,
-    pub bytes: [u8; 336],
-}
+// A line of at most 336 bytes, its LF included.
+pub type Reply = Printed<336>;
 
 // ---- lines
 
 pub fn refused(number: u32) -> Reply
-    ensures { (result ≡ in_line (refused_text number)) × (result.length ≤ 336) }
+    ensures { result ≡ refused_text number }
 {
-    let mut bytes = [0u8; 336];
-    let length = put_line(&mut bytes, 0, b"refused=", number as u64);
-    Reply { length, bytes }
+    let mut line = Reply::new();
+    line.put_line(b"refused=", number as u64);
+    line
 }
 
 // A line that is no request is refused as a text that is no page is. The program says this of a line that is too long, too.
 pub fn no_request() -> Reply
-    ensures { (result ≡ in_line no_request) × (result.length ≤ 336) }
+    ensures { result ≡ no_request }
 {
     refused(refusal::NO_PAGE)
 }
 
 pub fn point_line(y: [i32; 24]) -> Reply
-    ensures { (result ≡ in_line (point_line y)) × (result.length ≤ 336) }
+    ensures { result ≡ point_line y }
 {
-    let mut bytes = [0u8; 336];
-    let a = put(&mut bytes, 0, b"point=");
-    let b = put_list(&mut bytes, a, y);
-    let length = put(&mut bytes, b, b"\n");
-    Reply { length, bytes }
+    let mut line = Reply::new();
+    line.put(b"point=");
+    line.put_list(y);
+    line.put(b"\n");
+    line
 }
 
 // A refusal that is about a section names it.
 fn refused_point(number: u32, section: u32) -> Reply
-    ensures { (result ≡ in_line (refused_point number section)) × (result.length ≤ 336) }
+    ensures { result ≡ refused_point number section }
 {
     if section == 0 {
         return refused(number);
     }
-    let mut bytes = [0u8; 336];
-    let a = put(&mut bytes, 0, b"refused=");
-    let b = put_decimal(&mut bytes, a, number as u64);
-    let length = put_line(&mut bytes, b, b" section=", section as u64);
-    Reply { length, bytes }
+    let mut line = Reply::new();
+    line.put(b"refused=");
+    line.put_decimal(number as u64);
+    line.put_line(b" section=", section as u64);
+    line
 }
 
 pub fn word_line(e: Encoded) -> Reply
-    ensures { (result ≡ in_line (encoded_line e)) × (result.length ≤ 336) }
+    ensures { result ≡ encoded_line e }
 {
     if e.number != 0 {
         return refused_point(e.number, e.section);
     }
-    let mut bytes = [0u8; 336];
-    let a = put(&mut bytes, 0, b"word=");
-    let b = put_hex(&mut bytes, a, e.word, 12);
-    let length = put(&mut bytes, b, b"\n");
-    Reply { length, bytes }
+    let mut line = Reply::new();
+    line.put(b"word=");
+    line.put_hex(e.word, 12);
+    line.put(b"\n");
+    line
 }
 
-#[tactic(auto, using(std::proofs::Common::ne_eqb), unfolding(crate::specs::Answers::code_line))]
 fn code_line(c: Code) -> Reply
-    ensures { (result ≡ in_line (code_line c)) × (result.length ≤ 336) }
+    ensures { result ≡ code_line c }
 {
     if c.number != 0 {
         return refused(c.number);
     }
-    let y = c.point;
-    let mut bytes = [0u8; 336];
-    let a = put(&mut bytes, 0, b"word=");
-    let b = put_hex(&mut bytes, a, c.word, 12);
-    let d = put(&mut bytes, b, b" score=");
-    let e = put_double(&mut bytes, d, c.score);
-    let f = put(&mut bytes, e, b" point=");
-    let g = put_list(&mut bytes, f, y);
-    let length = put(&mut bytes, g, b"\n");
-    Reply { length, bytes }
+    let mut line = Reply::new();
+    line.put(b"word=");
+    line.put_hex(c.word, 12);
+    line.put(b" score=");
+    line.put_double(c.score);
+    line.put(b" point=");
+    line.put_list(c.point);
+    line.put(b"\n");
+    line
 }
 
 fn scales_line(l: Scales) -> Reply
-    ensures { (result ≡ in_line (scales_line l)) × (result.length ≤ 336) }
+    ensures { result ≡ scales_line l }
 {
     if l.number != 0 {
         return refused(l.number);
     }
-    let mut bytes = [0u8; 336];
-    let a = put(&mut bytes, 0, b"max=");
-    let b = put_double(&mut bytes, a, l.largest);
-    let c = put(&mut bytes, b, b" scale=");
-    let d = put_double(&mut bytes, c, l.scale);
-    let length = put(&mut bytes, d, b"\n");
-    Reply { length, bytes }
+    let mut line = Reply::new();
+    line.put(b"max=");
+    line.put_double(l.largest);
+    line.put(b" scale=");
+    line.put_double(l.scale);
+    line.put(b"\n");
+    line
 }
 
 fn score_line(t: Scored) -> Reply
-    ensures { (result ≡ in_line (score_line t)) × (result.length ≤ 336) }
+    ensures { result ≡ score_line t }
 {
     if t.number != 0 {
         return refused(t.number);
     }
-    let mut bytes = [0u8; 336];
-    let a = put(&mut bytes, 0, b"score=");
-    let b = put_double(&mut bytes, a, t.score);
-    let length = put(&mut bytes, b, b"\n");
-    Reply { length, bytes }
+    let mut line = Reply::new();
+    line.put(b"score=");
+    line.put_double(t.score);
+    line.put(b"\n");
+    line
 }
 
 // ---- requests: the arguments stand from `at` to the line's end
 
 // The point of a word.
 fn decode(s: &[u8], at: usize) -> Reply
-    ensures { (result ≡ in_line (decode_answer s.now at)) × (result.length ≤ 336) }
+    ensures { result ≡ decode_answer s.now at }
 {
     let Number::Read(word, next) = read_hex(s, at) else {
         return no_request();
@@ -155,7 +149,7 @@ fn decode(s: &[u8], at: usize) -> Reply
 
 // The word of a point.
 fn point(s: &[u8], at: usize) -> Reply
-    ensures { (result ≡ in_line (point_answer s.now at)) × (result.length ≤ 336) }
+    ensures { result ≡ point_answer s.now at }
 {
     let p = read_point(s, at);
     if p.good & (p.next == s.len()) {
@@ -174,7 +168,7 @@ fn setting(n: u64) -> u32
 
 // The code at a scale. Here and below, `odd` says whether odd points are searched too.
 pub fn scale(s: &[u8], at: usize, odd: bool) -> Reply
-    ensures { (result ≡ in_line (scale_over (parities_of odd) s.now at)) × (result.length ≤ 336) }
+    ensures { result ≡ scale_over (parities_of odd) s.now at }
 {
     let Number::Read(n, after) = read_decimal(s, at) else {
         return no_request();
@@ -192,7 +186,7 @@ pub fn scale(s: &[u8], at: usize, odd: bool) -> Reply
 
 // The code at the scale that the samples give.
 pub fn auto(s: &[u8], at: usize, odd: bool) -> Reply
-    ensures { (result ≡ in_line (auto_over (parities_of odd) s.now at)) × (result.length ≤ 336) }
+    ensures { result ≡ auto_over (parities_of odd) s.now at }
 {
     let Number::Read(n, next) = read_decimal(s, at) else {
         return no_request();
@@ -207,7 +201,7 @@ pub fn auto(s: &[u8], at: usize, odd: bool) -> Reply
 
 // The largest magnitude and the lower scale.
 fn lower(s: &[u8], at: usize) -> Reply
-    ensures { (result ≡ in_line (lower_answer s.now at)) × (result.length ≤ 336) }
+    ensures { result ≡ lower_answer s.now at }
 {
     let p = read_samples(s, at);
     if p.good & (p.next == s.len()) {
@@ -219,7 +213,7 @@ fn lower(s: &[u8], at: usize) -> Reply
 
 // The score of samples and a point.
 fn score(s: &[u8], at: usize) -> Reply
-    ensures { (result ≡ in_line (score_answer s.now at)) × (result.length ≤ 336) }
+    ensures { result ≡ score_answer s.now at }
 {
     let p = read_samples(s, at);
     if !p.good {
@@ -237,7 +231,7 @@ fn score(s: &[u8], at: usize) -> Reply
 // ---- any line, by its first word
 
 fn of_samples(s: &[u8]) -> Reply
-    ensures { (result ≡ in_line (of_samples s.now)) × (result.length ≤ 336) }
+    ensures { result ≡ of_samples s.now }
 {
     let at = after_name(s, b"auto");
     if 0 < at {
@@ -256,7 +250,7 @@ fn of_samples(s: &[u8]) -> Reply
 
 // The line's end, an LF, is not among its bytes.
 pub fn answer(line: &[u8]) -> Reply
-    ensures { (result ≡ in_line (answer_of line.now)) × (result.length ≤ 336) }
+    ensures { result ≡ answer_of line.now }
 {
     let at = after_name(line, b"decode");
     if 0 < at {

@@ -11,8 +11,7 @@
 // It is a crate of its own so that the full coder's answers are proved without the profile.
 #![tactic(auto)]
 
-ghost use Rattle.std.specs.Prelude.{◌≡◌, ◌≤◌};
-ghost use Rattle.answers.specs.Answers.{in_line};
+ghost use Rattle.std.specs.Prelude.{◌≡◌};
 ghost use Rattle.even_answers.specs.EvenAnswers.{decoded_line, even_decode_answer, even_point_answer, even_answer_of};
 
 use answers::{Reply, no_request, point_line, refused, word_line};
@@ -22,7 +21,7 @@ use request::{Number, after_name, read_hex, read_point};
 // ---- lines
 
 fn decoded_line(d: Decoded) -> Reply
-    ensures { (result ≡ in_line (decoded_line d)) × (result.length ≤ 336) }
+    ensures { result ≡ decoded_line d }
 {
     if d.number != 0 {
         return refused(d.number);
@@ -35,7 +34,7 @@ fn decoded_line(d: Decoded) -> Reply
 
 // The point of an even word.
 fn decode(s: &[u8], at: usize) -> Reply
-    ensures { (result ≡ in_line (even_decode_answer s.now at)) × (result.length ≤ 336) }
+    ensures { result ≡ even_decode_answer s.now at }
 {
     let Number::Read(word, next) = read_hex(s, at) else {
         return no_request();
@@ -48,7 +47,7 @@ fn decode(s: &[u8], at: usize) -> Reply
 
 // The word of an even point.
 fn point(s: &[u8], at: usize) -> Reply
-    ensures { (result ≡ in_line (even_point_answer s.now at)) × (result.length ≤ 336) }
+    ensures { result ≡ even_point_answer s.now at }
 {
     let p = read_point(s, at);
     if p.good & (p.next == s.len()) {
@@ -62,7 +61,7 @@ fn point(s: &[u8], at: usize) -> Reply
 
 // The line's end, an LF, is not among its bytes. The `false` of two calls says that no odd points are searched.
 pub fn answer(line: &[u8]) -> Reply
-    ensures { (result ≡ in_line (even_answer_of line.now)) × (result.length ≤ 336) }
+    ensures { result ≡ even_answer_of line.now }
 {
     let at = after_name(line, b"edecode");
     if 0 < at {

@@ -2,3 +2,4 @@ pub mod Reading
 pub mod Signs
 pub mod Rows
 pub mod Digits
+pub mod Held

@@ -2,3 +2,4 @@ pub mod Text
 pub mod Lines
 pub mod Rows
 pub mod Placed
+pub mod Printed

@@ -6,3 +6,6 @@ pub mod Placed
 pub mod Doubles
 -- each reader accepts just the lines of its kind; lengths; pieces in a row
 pub mod Laws
+-- a text in an array of its own
+pub mod Printed
+pub mod Held

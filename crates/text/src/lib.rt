@@ -11,6 +11,7 @@ mod line;
 mod list;
 mod number;
 mod piece;
+mod printed;
 mod write;
 
 pub use double::{double_of, put_double};
@@ -18,3 +19,4 @@ pub use line::{Read, byte_at, decimal_line, digit_of, hex, starts};
 pub use list::list_line;
 pub use number::magnitude;
 pub use piece::{put, put_decimal, put_hex, put_line, put_list, put_signed};
+pub use printed::Printed;

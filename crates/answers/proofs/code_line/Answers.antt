@@ -1,27 +1,25 @@
 -- `code_line` meets its contract. Assumes nothing.
-use Rattle.std.proofs.Common.{◌≡◌, rules}
-use borrow.Author.Tests.{eq-eqb}
-use mathlib.Core.List.{append_assoc}
-use lib.Dec.{lit≤}
+use Rattle.std.proofs.Common.{◌∙◌, lit≤, append_assoc, eq-eqb, ne_eqb}
 use Rattle.text.specs.Text.{bytes, listed}
 use Rattle.text.specs.Doubles.{bits_shown}
-use Rattle.text.specs.Laws.Placed.{grown-more, grown-text, grown-hex}
+use Rattle.text.specs.Laws.Printed.{said-none, said-text, said-hex, said-more}
 use Rattle.answers.specs.Answers.{code_line}
-use Rattle.answers.proofs.Pieces.{line-none, line-all}
 use Rattle.answers.proofs.code_line.Goals as goal
+
+pub returns-then-c-ne0 : goal.returns-then-c-ne0
+unfolding code_line
+returns-then-c-ne0 c = rw (ne_eqb _ _ c.if-c-ne0.true) c.refused.ensures
 
 pub returns : goal.returns
 unfolding code_line
 returns c =
     let a = c.args.c in
-    let b = bits_shown a.score in
-    let y = c.put_list-g.ensures in
-    let l1 = grown-text line-none (bytes "word=") (lit≤ tt) c.put-a.ensures.value c.put-a.ensures.out_after in
-    let l2 = grown-hex l1 12 a.word (lit≤ tt) c.put_hex-b.ensures.value c.put_hex-b.ensures.out_after in
-    let l3 = grown-text l2 (bytes " score=") (lit≤ tt) c.put-d.ensures.value c.put-d.ensures.out_after in
-    let l4 = grown-hex l3 16 b (lit≤ tt) c.put_double-e.ensures.value c.put_double-e.ensures.out_after in
-    let l5 = grown-text l4 (bytes " point=") (lit≤ tt) c.put-f.ensures.value c.put-f.ensures.out_after in
-    let l6 = grown-more l5 (listed a.point) 288 y.out_after.1 (lit≤ tt) y.value y.out_after.0 in
-    let l7 = grown-text l6 (bytes "\n") (lit≤ tt) c.put-length.ensures.value c.put-length.ensures.out_after in
-    let accepted : a.number ≡ 0 = search rules in
-    rw (eq-eqb _ _ accepted) (line-all l7 _ (simp append_assoc) (lit≤ tt))
+    let y = listed a.point in
+    let l1 = said-text (said-none c.new-line.ensures) (bytes "word=") (lit≤ tt) c.put.ensures in
+    let l2 = said-hex l1 12 a.word (lit≤ tt) c.put_hex.ensures in
+    let l3 = said-text l2 (bytes " score=") (lit≤ tt) c.put-2.ensures in
+    let l4 = said-hex l3 16 (bits_shown a.score) (lit≤ tt) c.put_double.ensures in
+    let l5 = said-text l4 (bytes " point=") (lit≤ tt) c.put-3.ensures in
+    let l6 = said-more l5 y 288 c.put_list.ensures.most (lit≤ tt) c.put_list.ensures.after in
+    let l7 = said-text l6 (bytes "\n") (lit≤ tt) c.put-4.ensures in
+    rw (eq-eqb _ _ c.if-c-ne0.false) (l7.is ∙ simp append_assoc)
