@@ -8,27 +8,9 @@
 // on nothing is answered. What was written is a beginning of the right answers, whose last line may be cut.
 #![tactic(auto)]
 
-ghost use Rattle.std.specs.Prelude.{◌≤◌};
-
-use answers::Reply;
+use std::fmt;
 use std::io::Read;
-use text::put;
-
-// What is held from byte to byte: so many bytes of a line, and so many of answers; and whether each write
-// went well.
-#[derive(Clone, Copy)]
-struct Held {
-    line: usize,
-    out: usize,
-    good: bool,
-}
-
-// How a read went: whether to go on, and how many bytes of a line are held.
-#[derive(Clone, Copy)]
-struct Turn {
-    more: bool,
-    line: usize,
-}
+use text::Printed;
 
 // How much is read at once, and how many bytes of answers there is room for.
 const ROOM: usize = 65536;
@@ -36,163 +18,102 @@ const ROOM: usize = 65536;
 // Answers are written once so many bytes of them are held: no answer is longer than what is left of the buffer.
 const FULL: usize = 64512;
 
-// Says on standard error that a read or a write failed. No bytes of a line are held from then on, so nothing
-// more is answered.
-fn failed(rt: &impl Eprint, what: &str) -> Turn {
-    let _ = rt.eprintln(what);
-    Turn {
-        more: false,
-        line: 0,
+// A line of so many bytes is too long, and what follows of it is not held.
+const LINE: usize = 1024;
+
+// What is held from byte to byte: the line so far, and the answers that are not written yet.
+#[derive(Drop)]
+struct Held {
+    line: Printed<LINE>,
+    out: Printed<ROOM>,
+}
+
+// What failed. After a write that failed nothing more is written: what follows would stand in the middle of a line.
+#[derive(Clone, Copy)]
+enum Failed {
+    Read,
+    Write,
+}
+
+impl fmt::Display for Failed {
+    fn fmt<W: fmt::Write>(&self, f: &mut fmt::Formatter<W>) -> fmt::Result {
+        f.write_str(match self {
+            Failed::Read => "ask: standard input cannot be read, requests are missing",
+            Failed::Write => "ask: standard output cannot be written, answers are missing",
+        })
     }
 }
 
-fn write_out(rt: &impl Print, out: &[u8], n: usize) -> bool {
-    if n <= out.len() {
-        return rt.write_all(&out[0..n]).is_ok();
-    }
-    false
+// Writes the answers that are held.
+fn write_out(rt: &impl Print, out: &mut Printed<ROOM>) -> Result<(), Failed> {
+    rt.write_all(out.as_slice()).map_err(|_| Failed::Write)?;
+    *out = Printed::new();
+    Ok(())
 }
 
-// Writes the answers that are held once they fill the buffer.
-fn make_room(rt: &impl Print, out: &[u8], held: Held) -> Held {
-    if held.out < FULL {
-        return held;
-    }
-    Held {
-        line: held.line,
-        out: 0,
-        good: write_out(rt, out, held.out),
+// Answers the line that is held. Where it fills its array it was too long.
+fn end_line(held: &mut Held) {
+    let line = held.line.as_slice();
+    let reply = if line.len() < LINE {
+        even_answers::answer(line)
+    } else {
+        answers::no_request()
+    };
+    held.out.put(reply.as_slice());
+    held.line = Printed::new();
+}
+
+fn take(b: u8, held: &mut Held) {
+    if b == b'\n' {
+        end_line(held);
+    } else {
+        held.line.put(&[b]);
     }
 }
 
-// Writes the rest of the answers. After a write that failed nothing more is written: what follows would stand
-// in the middle of a line.
-fn write_rest(rt: &(impl Print + Eprint), out: &[u8], held: Held) -> Turn {
-    if held.good {
-        if write_out(rt, out, held.out) {
-            return Turn {
-                more: true,
-                line: held.line,
-            };
+// Takes bytes of the input, and writes the answers to the lines that end in them.
+fn take_all(rt: &impl Print, bytes: &[u8], held: &mut Held) -> Result<(), Failed> {
+    for b in bytes {
+        take(*b, held);
+        if FULL <= held.out.as_slice().len() {
+            write_out(rt, &mut held.out)?;
         }
     }
-    failed(
-        rt,
-        "ask: standard output cannot be written, answers are missing",
-    )
+    write_out(rt, &mut held.out)
 }
 
-// Puts an answer into out from `to` on, and answers the place behind it.
-fn put_answer(a: Reply, out: &mut [u8], to: usize) -> usize
-    requires { a.length ≤ 336 }
-{
-    let n = a.length;
-    let bytes = a.bytes;
-    put(out, to, &bytes[..n])
-}
-
-// Answers the line of which n bytes are held. Where they fill the buffer the line was too long.
-fn end_line(line: &[u8], n: usize, out: &mut [u8], to: usize) -> usize {
-    if n < line.len() {
-        return put_answer(even_answers::answer(&line[0..n]), out, to);
-    }
-    put_answer(answers::no_request(), out, to)
-}
-
-fn take(b: u8, line: &mut [u8], out: &mut [u8], held: Held) -> Held {
-    if b == b'\n' {
-        return Held {
-            line: 0,
-            out: end_line(line, held.line, out, held.out),
-            good: held.good,
-        };
-    }
-    let byte = [b];
-    Held {
-        line: put(line, held.line, &byte),
-        out: held.out,
-        good: held.good,
-    }
-}
-
-// Takes bytes of the input, of whose first line n bytes are held, and writes the answers to the lines that end in them.
-fn take_all(
-    rt: &(impl Print + Eprint),
-    bytes: &[u8],
-    line: &mut [u8],
-    out: &mut [u8],
-    n: usize,
-) -> Turn {
-    let mut held = Held {
-        line: n,
-        out: 0,
-        good: true,
-    };
-    let mut i: usize = 0;
-    while i < bytes.len() && held.good {
-        let taken = take(bytes[i], line, out, held);
-        held = make_room(rt, out, taken);
-        i += 1;
-    }
-    write_rest(rt, out, held)
-}
-
-// Reads once. A read that fails is not the end: what is held of a line is then no request.
-fn read_some(
-    rt: &(impl Print + Eprint),
-    from: &mut impl Read,
-    line: &mut [u8],
-    out: &mut [u8],
-    n: usize,
-) -> Turn {
+// Reads once, and says how many bytes that were: at the end of the input none.
+fn read_some(rt: &impl Print, from: &mut impl Read, held: &mut Held) -> Result<usize, Failed> {
     let mut bytes = [0u8; ROOM];
-    match from.read(&mut bytes) {
-        Ok(0) => Turn {
-            more: false,
-            line: n,
-        },
-        Ok(count) => take_all(rt, &bytes[..count], line, out, n),
-        Err(_) => failed(
-            rt,
-            "ask: standard input cannot be read, requests are missing",
-        ),
+    let count = from.read(&mut bytes).map_err(|_| Failed::Read)?;
+    if 0 < count {
+        take_all(rt, &bytes[..count], held)?;
     }
+    Ok(count)
 }
 
-// Reads to the end, and answers how many bytes of a line are held there. A proved loop has to end, and nothing says that
-// the input does: so the turns are counted, up to a number that no run reaches.
-fn answer_all(
-    rt: &(impl Print + Eprint),
-    from: &mut impl Read,
-    line: &mut [u8],
-    out: &mut [u8],
-) -> usize {
-    let mut n = 0;
+// Reads to the end, and answers a last line with no LF too. A proved loop has to end, and nothing says that the input does: so the
+// turns are counted, up to a number that no run reaches.
+fn answer_all(rt: &impl Print, from: &mut impl Read, held: &mut Held) -> Result<(), Failed> {
     for _ in 0..u64::MAX {
-        let t = read_some(rt, from, line, out, n);
-        n = t.line;
-        if !t.more {
+        if read_some(rt, from, held)? == 0 {
             break;
         }
     }
-    n
+    if held.line.as_slice().is_empty() {
+        return Ok(());
+    }
+    end_line(held);
+    write_out(rt, &mut held.out)
 }
 
-// A last line with no LF is answered too.
 fn main(rt: HostRuntime) {
-    let mut line = [0u8; 1024];
-    let mut out = [0u8; ROOM];
-    let n = answer_all(&rt, &mut rt.stdin(), &mut line, &mut out);
-    if n > 0 {
-        let end = end_line(&line, n, &mut out, 0);
-        write_rest(
-            &rt,
-            &out,
-            Held {
-                line: 0,
-                out: end,
-                good: true,
-            },
-        );
+    let mut held = Held {
+        line: Printed::new(),
+        out: Printed::new(),
+    };
+    if let Err(failed) = answer_all(&rt, &mut rt.stdin(), &mut held) {
+        // What cannot be said on standard error either is said nowhere.
+        let _ = rt.eprintln(failed);
     }
 }
