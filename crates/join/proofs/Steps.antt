@@ -1,5 +1,5 @@
 -- A turn of each loop is a step of its definition. Assumes nothing.
-use Rattle.std.proofs.Common.{◌≡◌, Bool, cond, ◌&&◌, List, ℕ, suc, ◌/◌, ◌%◌, get_or, ◌∙◌, ap, ap₂}
+use Rattle.std.proofs.Common.{◌≡◌, cond, ◌&&◌, List, ℕ, suc, ◌/◌, ◌%◌, get_or, ◌∙◌, ap, ap₂}
 use Rattle.std.specs.Prelude.{Float, set}
 use Rattle.std.specs.Float.{nan}
 use Rattle.std.specs.Float.Ieee.{lt, le}
@@ -46,12 +46,12 @@ bounds-none p s u q = bounds-eq (top_tab 128 q) (top_tab 256 q) (top_tab 128 q)
 
 -- one path more
 pub bounds-more : (p : ℕ) (s : Sides) (u0 : Float) (n : ℕ) (w : Way) (b : Bounds)
-    {u y1 y2 y3 : Float} {x : Bool} → w ≡ way_at tables p s (n / 32) (n % 32) → b ≡ bounds_to tables p s u0 n → x ≡ all_exact s w
-    → u ≡ cond (x && lt w.cost b.u) w.cost b.u → y1 ≡ lower (get_or b.b1 w.i1 nan) w.cost → y2 ≡ lower (get_or b.b2 w.i2 nan) w.cost
+    {u y1 y2 y3 : Float} → w ≡ way_at tables p s (n / 32) (n % 32) → b ≡ bounds_to tables p s u0 n
+    → u ≡ cond (all_exact s w && lt w.cost b.u) w.cost b.u → y1 ≡ lower (get_or b.b1 w.i1 nan) w.cost → y2 ≡ lower (get_or b.b2 w.i2 nan) w.cost
     → y3 ≡ lower (get_or b.b3 w.i3 nan) w.cost
     → bounds_by u (set b.b1 w.i1 y1) (set b.b2 w.i2 y2) (set b.b3 w.i3 y3) ≡ bounds_to tables p s u0 (suc n)
 unfolding bounds_to
-bounds-more p s u0 n w b {u} {y1} {y2} {y3} hw hb hx q q1 q2 q3 = stored ∙ ap₂ (bound_by s) hb hw
+bounds-more p s u0 n w b {u} {y1} {y2} {y3} hw hb q q1 q2 q3 = stored ∙ ap₂ (bound_by s) hb hw
   where
     stored : bounds_by u (set b.b1 w.i1 y1) (set b.b2 w.i2 y2) (set b.b3 w.i3 y3) ≡ bound_by s b w
-    stored = rw (q, q1, q2, q3, hx)
+    stored = rw (q, q1, q2, q3)

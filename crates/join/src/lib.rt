@@ -21,45 +21,33 @@ fn mid_at(i1: usize, t: usize) -> usize
     i1 % 64 / 8 * 32 + t
 }
 
-// All three entries of a path are exact.
-fn all_exact(sides: &Sides, way: Way) -> bool
-    requires { InRange way }
-    ensures { result ≡ all_exact sides.now way }
-{
-    sides.e1[way.i1].exact & (sides.e2[way.i2].exact & sides.e3[way.i3].exact)
-}
-
-// The lower of two costs; the first where neither is.
+// The lower of two costs; the first where neither is: f64::min answers the other one where the first is a NaN, and `lower` does not.
 fn lowest(a: f64, b: f64) -> f64
     ensures { result ≡ lower a b }
 {
     if b < a { b } else { a }
 }
 
-// The cost of a path whose three entries are exact, where it is below u; else u.
-fn exact_cost(exact: bool, cost: f64, u: f64) -> f64
-    ensures { result ≡ cond (exact && lt cost u) cost u }
-{
-    if exact & (cost < u) { cost } else { u }
-}
-
-// The paths of one parity p: the states that the branches out of the first eight states lead to tell those of all.
+// The paths of one parity p through the entries of the three sections. The states that the branches out of the first eight states lead to tell
+// those of all.
 #[derive(Drop)]
-struct Paths {
+struct Paths<'a> {
     p: usize,
     nexts: [u8; 128],
+    sides: &'a Sides,
     ghost p_bound: { p < 2 },
     ghost nexts_value: { nexts ≡ first_nexts },
 }
 
-impl Paths {
+impl<'a> Paths<'a> {
     // Those of parity p % 2.
-    fn new(p: u32) -> Paths
-        ensures { result.p ≡ p % 2 }
+    fn new(p: u32, sides: &'a Sides) -> Self
+        ensures { (result.p ≡ p % 2) × (result.sides.now ≡ sides.now) }
     {
         Paths {
             p: (p % 2) as usize,
             nexts: trellis::nexts(),
+            sides,
         }
     }
 
@@ -80,24 +68,24 @@ impl Paths {
     }
 
     // Path t out of end entry i1: it costs the sum of its three entries.
-    fn way_at(&self, sides: &Sides, i1: usize, t: usize) -> Way
+    fn way_at(&self, i1: usize, t: usize) -> Way
         requires { (i1 < 128) × (t < 32) }
-        ensures { (result ≡ way_at tables self.now.p sides.now i1 t) × InRange result }
+        ensures { (result ≡ way_at tables self.now.p self.now.sides.now i1 t) × InRange result }
     {
         let i2 = mid_at(i1, t);
         let i3 = self.last_at(i1, t);
-        let cost = sides.e1[i1].value + sides.e2[i2].value + sides.e3[i3].value;
+        let cost = self.sides.e1[i1].value + self.sides.e2[i2].value + self.sides.e3[i3].value;
         Way { cost, i1, i2, i3 }
     }
 
     // The best of a way and the 32 paths out of end entry i1, replaced on strictly less.
-    fn row(&self, sides: &Sides, i1: usize, way: Way) -> Way
+    fn row(&self, i1: usize, way: Way) -> Way
         requires { i1 < 128 }
-        ensures { result ≡ row_to tables self.now.p sides.now i1 way 32 }
+        ensures { result ≡ row_to tables self.now.p self.now.sides.now i1 way 32 }
     {
         let mut best = way;
         for t in 0..32usize {
-            let new = self.way_at(sides, i1, t);
+            let new = self.way_at(i1, t);
             if new.cost < best.cost {
                 best = new;
             }
@@ -106,20 +94,20 @@ impl Paths {
     }
 
     // The same, but an end entry whose own value is no less than the best cost is passed over.
-    fn entered(&self, sides: &Sides, i1: usize, best: Way) -> Way
+    fn entered(&self, i1: usize, best: Way) -> Way
         requires { i1 < 128 }
-        ensures { result ≡ cond (le best.cost (ent_at sides.now.e1 i1).value) best (row_to tables self.now.p sides.now i1 best 32) }
+        ensures { result ≡ cond (le best.cost (ent_at self.now.sides.now.e1 i1).value) best (row_to tables self.now.p self.now.sides.now i1 best 32) }
     {
-        if sides.e1[i1].value >= best.cost {
+        if self.sides.e1[i1].value >= best.cost {
             best
         } else {
-            self.row(sides, i1, best)
+            self.row(i1, best)
         }
     }
 
     // The best path out of the 128 end entries.
-    fn best_way(&self, sides: &Sides) -> Way
-        ensures { result ≡ join_to tables self.now.p sides.now 128 }
+    fn best_way(&self) -> Way
+        ensures { result ≡ join_to tables self.now.p self.now.sides.now 128 }
     {
         let mut best = Way {
             cost: search::infinite(),
@@ -128,14 +116,27 @@ impl Paths {
             i3: 0,
         };
         for i1 in 0..128usize {
-            best = self.entered(sides, i1, best);
+            best = self.entered(i1, best);
         }
         best
     }
 
+    // The cost of a path whose three entries are exact, where it is below u; else u.
+    fn exact_cost(&self, way: Way, u: f64) -> f64
+        requires { InRange way }
+        ensures { result ≡ cond (all_exact self.now.sides.now way && lt way.cost u) way.cost u }
+    {
+        let s = self.sides;
+        if s.e1[way.i1].exact & (s.e2[way.i2].exact & s.e3[way.i3].exact) & (way.cost < u) {
+            way.cost
+        } else {
+            u
+        }
+    }
+
     // The pass over the 4,096 paths: each lowers the bound of its three entries.
-    fn bounds(&self, sides: &Sides, u0: f64) -> Bounds
-        ensures { result ≡ bounds_to tables self.now.p sides.now u0 4096 }
+    fn bounds(&self, u0: f64) -> Bounds
+        ensures { result ≡ bounds_to tables self.now.p self.now.sides.now u0 4096 }
     {
         let top = search::infinite();
         let mut u = u0;
@@ -143,8 +144,8 @@ impl Paths {
         let mut b2 = [top; 256];
         let mut b3 = [top; 128];
         for n in 0..4096usize {
-            let way = self.way_at(sides, n / 32, n % 32);
-            u = exact_cost(all_exact(sides, way), way.cost, u);
+            let way = self.way_at(n / 32, n % 32);
+            u = self.exact_cost(way, u);
             b1[way.i1] = lowest(b1[way.i1], way.cost);
             b2[way.i2] = lowest(b2[way.i2], way.cost);
             b3[way.i3] = lowest(b3[way.i3], way.cost);
@@ -157,12 +158,12 @@ impl Paths {
 pub fn join(p: u32, sides: &Sides) -> Way
     ensures { (result ≡ join tables (p % 2) sides.now) × ((result.i1 < 128) × ((result.i2 < 256) × (result.i3 < 128))) }
 {
-    Paths::new(p).best_way(sides)
+    Paths::new(p, sides).best_way()
 }
 
 // The best path through each entry, and u lowered to the best path whose three entries are exact, of parity p % 2.
 pub fn bounds(p: u32, sides: &Sides, u: f64) -> Bounds
     ensures { result ≡ bounds_to tables (p % 2) sides.now u 4096 }
 {
-    Paths::new(p).bounds(sides, u)
+    Paths::new(p, sides).bounds(u)
 }

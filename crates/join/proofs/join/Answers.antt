@@ -8,5 +8,5 @@ use Rattle.join.proofs.join.Goals as goal
 pub returns : goal.returns
 returns c =
     let s = c.args in
-    let q : c.best_way.result ≡ join tables (s.p % 2) s.sides.now = rw c.new.ensures at c.best_way.ensures in
+    let q : c.best_way.result ≡ join tables (s.p % 2) s.sides.now = rw (c.new.ensures.0, c.new.ensures.1) at c.best_way.ensures in
     (q, rw q (in_join (s.p % 2) s.sides.now 128 (omega arith)))

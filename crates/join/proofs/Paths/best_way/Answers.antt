@@ -10,4 +10,4 @@ loop-i1-init c = (omega arith, rw c.infinite.ensures)
 
 pub loop-i1-preserved : goal.loop-i1-preserved
 loop-i1-preserved c =
-    (omega arith, rw add-one (join_more c.args.self.now.p c.args.sides.now _ c.loop-i1.invariant.1 c.entered-best.ensures))
+    (omega arith, rw add-one (join_more c.args.self.now.p c.args.self.now.sides.now _ c.loop-i1.invariant.1 c.entered-best.ensures))

@@ -5,4 +5,4 @@ use Rattle.search.specs.Join.{join_to}
 use Rattle.join.proofs.Paths.best_way.Given as goal
 
 abbrev pub invariant-loop-i1 : goal.invariant-loop-i1
-invariant-loop-i1 l = (l.i1 ≤ 128) × (l.best ≡ join_to tables l.self.p l.sides l.i1)
+invariant-loop-i1 l = (l.i1 ≤ 128) × (l.best ≡ join_to tables l.self.p l.self.sides.now l.i1)

@@ -6,4 +6,4 @@ use Rattle.join.proofs.Steps.{bounds_by}
 use Rattle.join.proofs.Paths.bounds.Given as goal
 
 abbrev pub invariant-loop-n : goal.invariant-loop-n
-invariant-loop-n l = (l.n ≤ 4096) × (bounds_by l.u l.b1 l.b2 l.b3 ≡ bounds_to tables l.self.p l.sides l.u0 l.n)
+invariant-loop-n l = (l.n ≤ 4096) × (bounds_by l.u l.b1 l.b2 l.b3 ≡ bounds_to tables l.self.p l.self.sides.now l.u0 l.n)

@@ -20,5 +20,5 @@ loop-t-preserved c =
     ] in (
       omega arith,
       rw add-one
-          (row_more c.args.self.now.p c.args.sides.now c.args.i1 c.args.way l.t c.way_at-new.ensures.0 l.invariant.1 k),
+          (row_more c.args.self.now.p c.args.self.now.sides.now c.args.i1 c.args.way l.t c.way_at-new.ensures.0 l.invariant.1 k),
     )

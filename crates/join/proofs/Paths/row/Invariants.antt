@@ -5,4 +5,4 @@ use Rattle.search.specs.Join.{row_to}
 use Rattle.join.proofs.Paths.row.Given as goal
 
 abbrev pub invariant-loop-t : goal.invariant-loop-t
-invariant-loop-t l = (l.t ≤ 32) × (l.best ≡ row_to tables l.self.p l.sides l.i1 l.initial.best l.t)
+invariant-loop-t l = (l.t ≤ 32) × (l.best ≡ row_to tables l.self.p l.self.sides.now l.i1 l.initial.best l.t)
