@@ -2,6 +2,7 @@
 use Rattle.std.proofs.Common.{◌≡◌, true, false, T, sym, refl, ◌∙◌, subst, true≢false}
 use lib.Ieee.{Float, nan, inf, fin, binary64, fits, lt, eq, neg}
 use lib.Ieee.Scale.{finite}
+use Rattle.std.specs.Float.{float_is_finite}
 use Rattle.laws.specs.Laws.Tests.{true_is}
 use Rattle.float.specs.Value.{zero64}
 use Rattle.float.specs.Calls.{abs_of}
@@ -9,20 +10,12 @@ use Rattle.float.specs.Laws.Exact.{zero-fits, zero_mag, same_units}
 use Rattle.float.specs.Laws.Compare.{lt_zero, eq_zero, zero-eq, from_zero, not-lt_zero}
 use Rattle.float.specs.Laws.Near.{abs-exactly}
 
--- ---- x < infinity, and then -infinity < x
-pub finite_yes : (x : Float) → lt x (inf false) ≡ true → lt (inf true) x ≡ finite x
-unfolding lt
-finite_yes nan e = refl
-finite_yes (inf true) e = refl
-finite_yes (inf false) e = absurd (true≢false (sym e))
-finite_yes (fin s m d) e = refl
-
-pub finite_no : (x : Float) → lt x (inf false) ≡ false → false ≡ finite x
-unfolding lt
-finite_no nan e = refl
-finite_no (inf true) e = refl
-finite_no (inf false) e = refl
-finite_no (fin s m d) e = sym e
+-- ---- the library's test is the definition
+pub finite_is : (x : Float) → float_is_finite x ≡ finite x
+unfolding float_is_finite
+finite_is nan = refl
+finite_is (inf s) = refl
+finite_is (fin s m d) = refl
 
 -- ---- x < 0, then x = 0
 pub abs_negative : (x : Float) → T (fits binary64 x) → lt x zero64 ≡ true → neg x ≡ abs_of x

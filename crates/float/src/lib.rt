@@ -6,7 +6,7 @@ ghost use Rattle.std.specs.Float.Ieee.Scale.{finite};
 ghost use Rattle.float.specs.Calls.{abs_of, clamped, half_up, rounded, quotients_of};
 ghost use Rattle.float.specs.Laws.Rounding.{Small};
 
-// The Rust's f64::abs: -0.0 gives +0.0, and a NaN a NaN.
+// The Rust's f64::abs: -0.0 gives +0.0, and a NaN a NaN. It is worked out here, and so are `clamp` and `round`, since document 01 asks for it.
 pub fn abs(x: f64) -> f64
     ensures { result ≡ abs_of x }
 {
@@ -23,7 +23,7 @@ pub fn abs(x: f64) -> f64
 pub fn is_finite(x: f64) -> bool
     ensures { result ≡ finite x }
 {
-    if x < 1.0 / 0.0 { -1.0 / 0.0 < x } else { false }
+    x.is_finite()
 }
 
 // The Rust's z.clamp(-1e6, 1e6).
@@ -65,9 +65,5 @@ pub fn round(z: f64) -> i32
 pub fn quotients(x: [f64; 24], s: f64) -> [f64; 24]
     ensures { result ≡ quotients_of x s }
 {
-    let mut t = [0.0; 24];
-    for i in 0..24usize {
-        t[i] = x[i] / s;
-    }
-    t
+    x.map(|v| v / s)
 }

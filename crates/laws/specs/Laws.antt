@@ -3,6 +3,7 @@ pub mod Tests
 pub mod Tables
 pub mod Trees
 pub mod Lists
+pub mod Made
 pub mod Filled
 pub mod Order
 pub mod Whole
