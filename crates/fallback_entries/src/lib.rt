@@ -12,6 +12,7 @@ ghost use Rattle.search.specs.Entries as search;
 ghost use Rattle.fallback_entries.specs.Inner.Flat.{member_at, members_of, squares_of, sum_to, fallback_in};
 
 use search::Entry;
+use std::array;
 
 mod tables;
 
@@ -44,22 +45,14 @@ fn members(p: u32) -> [f64; 8]
     requires { p < 2 }
     ensures { result ≡ members_of p }
 {
-    let mut out = [0.0f64; 8];
-    for i in 0..8usize {
-        out[i] = member_at(p, i);
-    }
-    out
+    array::from_fn(|i| member_at(p, i))
 }
 
 // Their squared distances to each coordinate's target: 64 squares, in place of eight for each of the 128 fallbacks.
 fn squares(m: &[f64; 8], t: [f64; 8]) -> [f64; 64]
     ensures { result ≡ squares_of m.now t }
 {
-    let mut out = [0.0f64; 64];
-    for i in 0..64usize {
-        out[i] = sq(m[i % 8], t[i / 8]);
-    }
-    out
+    array::from_fn(|i| sq(m[i % 8], t[i / 8]))
 }
 
 // Bit j of a pattern.
@@ -96,33 +89,13 @@ fn fallback(bytes: &[u8; 512], keys: &[u32; 512], squares: &[f64; 64], i: usize)
     requires { i < 512 }
     ensures { result ≡ fallback_in bytes.now keys.now squares.now i }
 {
-    let byte = bytes[i];
-    let key = keys[i];
-    let value = dist_to(squares, byte, key);
+    let (byte, key) = (bytes[i], keys[i]);
     Entry {
-        value,
+        value: dist_to(squares, byte, key),
         exact: true,
         byte,
         key,
     }
-}
-
-// The 128 fallbacks from place `from` on.
-fn fallbacks_from(
-    bytes: &[u8; 512],
-    keys: &[u32; 512],
-    squares: &[f64; 64],
-    from: usize,
-) -> [Entry; 128]
-    requires { from < 385 }
-    ensures { result ≡ tab (λ (i : ℕ). fallback_in bytes.now keys.now squares.now (from + i)) 128 }
-{
-    let first = fallback(bytes, keys, squares, from);
-    let mut out = [first; 128];
-    for i in 0..128usize {
-        out[i] = fallback(bytes, keys, squares, from + i);
-    }
-    out
 }
 
 // The points of least norm of the end regions, of the first end where kind is even and of the last where it is odd, and of parity p % 2.
@@ -131,12 +104,7 @@ pub fn fallbacks(kind: u32, p: u32, t: [f64; 8]) -> [Entry; 128]
 {
     let bytes = tables::fallback_bytes();
     let keys = tables::fallback_keys();
-    let m = members(p % 2);
-    let squares = squares(&m, t);
-    fallbacks_from(
-        &bytes,
-        &keys,
-        &squares,
-        ((kind % 2 * 2 + p % 2) * 128) as usize,
-    )
+    let squares = squares(&members(p % 2), t);
+    let from = ((kind % 2 * 2 + p % 2) * 128) as usize;
+    array::from_fn(|i| fallback(bytes, keys, &squares, from + i))
 }

@@ -1,4 +1,4 @@
-// The constant tables of the fallbacks. Each is read by one function, once a call: a constant array is made anew wherever it is read.
+// The constant tables of the fallbacks, lent.
 ghost use Rattle.std.specs.Prelude.{◌≡◌};
 ghost use Rattle.search.specs.Tables.{fallback_bytes, fallback_keys};
 
@@ -72,14 +72,14 @@ const FALLBACK_KEYS: [u32; 512] = [
     1, 1, 1, 1, 1, 1, 1, 1, 1, 1, 1, 1, 1, 1, 1, 1, 1, 1, 1, 1, 1, 1, 1, 1, 1, 1, 1, 1, 1, 1, 1,
 ];
 
-pub(crate) fn fallback_bytes() -> [u8; 512]
-    ensures { result ≡ fallback_bytes }
+pub(crate) fn fallback_bytes() -> &'static [u8; 512]
+    ensures { result.now ≡ fallback_bytes }
 {
-    FALLBACK_BYTES
+    &FALLBACK_BYTES
 }
 
-pub(crate) fn fallback_keys() -> [u32; 512]
-    ensures { result ≡ fallback_keys }
+pub(crate) fn fallback_keys() -> &'static [u32; 512]
+    ensures { result.now ≡ fallback_keys }
 {
-    FALLBACK_KEYS
+    &FALLBACK_KEYS
 }

@@ -1,8 +1,9 @@
 -- `fallback_entries::fallbacks` meets its contract: what the calls make together. Assumes nothing.
-use Rattle.std.proofs.Common.{◌≡◌, ◌∙◌, ap, ap₂, List, ℕ, ◌+◌, ◌*◌, ◌/◌, ◌%◌, ◌<◌, arith}
+use Rattle.std.proofs.Common.{◌≡◌, ◌∙◌, List, ℕ, ◌+◌, ◌*◌, ◌/◌, ◌%◌, ◌<◌, rules, arith}
 use Rattle.std.specs.Prelude.{Float}
 use Rattle.laws.specs.Words.{tab}
 use Rattle.laws.specs.Laws.Lists.{tab-eq}
+use Rattle.laws.specs.Laws.Made.{made}
 use Rattle.search.specs.declared.Entry.{Entry}
 use Rattle.search.specs.Tables.{tables, fallback_bytes, fallback_keys}
 use Rattle.search.specs.Entries.{fallback}
@@ -18,13 +19,15 @@ all-fallbacks : (ts : List Float) (kind p : ℕ) → kind < 2 → p < 2 → {byt
     → r ≡ tab (λ (i : ℕ). fallback tables ts kind p (i / 64) (i % 64)) 128
 all-fallbacks ts kind p hk hp {bytes} {keys} {members} {squares} qb qk qm qs h =
     h ∙ tab-eq Entry no_entry (λ (i : ℕ). fallback_in bytes keys squares ((kind * 2 + p) * 128 + i))
-    (λ (i : ℕ). fallback tables ts kind p (i / 64) (i % 64)) 128
-    (λ i l. ap₂ (λ (a b : List ℕ). fallback_in a b squares ((kind * 2 + p) * 128 + i)) qb qk
-    ∙ (ap (λ (q : List Float). fallback_in fallback_bytes fallback_keys q ((kind * 2 + p) * 128 + i)) (qs ∙ ap (λ (m : List Float). squares_of m ts) qm)
-    ∙ fallback_flat ts kind p i hk hp l))
+    (λ (i : ℕ). fallback tables ts kind p (i / 64) (i % 64)) 128 (λ i l. rw (qb, qk, qs, qm) (fallback_flat ts kind p i hk hp l))
 
 pub returns : goal.returns
 returns c =
     let s = c.args in
+    let bytes = c.fallback_bytes-bytes.result.now in
+    let keys = c.fallback_keys-keys.result.now in
+    let place : ℕ → ℕ = λ i. (s.kind % 2 * 2 + s.p % 2) * 128 + i in
+    let all = made _ _ (λ (i : ℕ). fallback_in bytes keys c.squares-squares.result (place i)) c.from_fn.result 128
+    (λ i y q l e. search rules) no_entry c.from_fn.ensures.items in
     all-fallbacks s.t (s.kind % 2) (s.p % 2) (omega arith) (omega arith) c.fallback_bytes-bytes.ensures c.fallback_keys-keys.ensures
-    c.members-m.ensures c.squares-squares.ensures c.fallbacks_from.ensures
+    c.members.ensures c.squares-squares.ensures all
