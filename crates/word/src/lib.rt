@@ -13,6 +13,24 @@ struct Slot {
     width: u32,
 }
 
+impl Slot {
+    // The field of `word` that stands here.
+    fn get(self, word: u64) -> u64
+        requires { (self.lo < 64) × (self.width < 64) }
+        ensures { (result ≡ field_at self.lo self.width word) × (result < 2 ^ self.width) }
+    {
+        (word >> self.lo) & ((1u64 << self.width) - 1)
+    }
+
+    // `below`, which ends where this field starts, with `value` put above it.
+    fn put(self, below: u64, value: u64) -> u64
+        requires { (below < 2 ^ self.lo) × (value < 2 ^ self.width) × (self.lo + self.width ≤ 64) × (self.lo < 64) }
+        ensures { (result ≡ below + value * 2 ^ self.lo) × (result < 2 ^ (self.lo + self.width)) }
+    {
+        below | (value << self.lo)
+    }
+}
+
 const P: Slot = Slot { lo: 0, width: 1 };
 
 const R: Slot = Slot { lo: 1, width: 1 };
@@ -54,16 +72,16 @@ impl Fields {
         ensures { result ≡ fields_of word }
     {
         Fields {
-            p: get(word, P) as u8,
-            r: get(word, R) as u8,
-            s8: get(word, S8) as u8,
-            b1: get(word, B1) as u8,
-            i1: get(word, I1) as u16,
-            b2: get(word, B2) as u8,
-            i2: get(word, I2) as u16,
-            b3: get(word, B3) as u8,
-            i3: get(word, I3) as u16,
-            gain: get(word, GAIN) as u8,
+            p: P.get(word) as u8,
+            r: R.get(word) as u8,
+            s8: S8.get(word) as u8,
+            b1: B1.get(word) as u8,
+            i1: I1.get(word) as u16,
+            b2: B2.get(word) as u8,
+            i2: I2.get(word) as u16,
+            b3: B3.get(word) as u8,
+            i3: I3.get(word) as u16,
+            gain: GAIN.get(word) as u8,
         }
     }
 
@@ -77,22 +95,6 @@ impl Fields {
             Err(Refusal::TooWide)
         }
     }
-}
-
-// The field of `word` at `slot`.
-fn get(word: u64, slot: Slot) -> u64
-    requires { (slot.lo < 64) × (slot.width < 64) }
-    ensures { (result ≡ field_at slot.lo slot.width word) × (result < 2 ^ slot.width) }
-{
-    (word >> slot.lo) & ((1u64 << slot.width) - 1)
-}
-
-// `below`, which ends where `slot` starts, with `value` put above it.
-fn put(below: u64, value: u64, slot: Slot) -> u64
-    requires { (below < 2 ^ slot.lo) × (value < 2 ^ slot.width) × (slot.lo + slot.width ≤ 64) × (slot.lo < 64) }
-    ensures { (result ≡ below + value * 2 ^ slot.lo) × (result < 2 ^ (slot.lo + slot.width)) }
-{
-    below | (value << slot.lo)
 }
 
 // Whether each field fits its width.
@@ -116,14 +118,14 @@ fn put_all(f: Fields) -> u64
     requires { Narrow f }
     ensures { result ≡ word_of f }
 {
-    let w = put(0, f.p as u64, P);
-    let w = put(w, f.r as u64, R);
-    let w = put(w, f.s8 as u64, S8);
-    let w = put(w, f.b1 as u64, B1);
-    let w = put(w, f.i1 as u64, I1);
-    let w = put(w, f.b2 as u64, B2);
-    let w = put(w, f.i2 as u64, I2);
-    let w = put(w, f.b3 as u64, B3);
-    let w = put(w, f.i3 as u64, I3);
-    put(w, f.gain as u64, GAIN)
+    let w = P.put(0, u64::from(f.p));
+    let w = R.put(w, u64::from(f.r));
+    let w = S8.put(w, u64::from(f.s8));
+    let w = B1.put(w, u64::from(f.b1));
+    let w = I1.put(w, u64::from(f.i1));
+    let w = B2.put(w, u64::from(f.b2));
+    let w = I2.put(w, u64::from(f.i2));
+    let w = B3.put(w, u64::from(f.b3));
+    let w = I3.put(w, u64::from(f.i3));
+    GAIN.put(w, u64::from(f.gain))
 }
