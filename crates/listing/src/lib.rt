@@ -5,20 +5,15 @@ ghost use Rattle.std.specs.Prelude.{◌≡◌, ◌+◌, ◌*◌, ◌-◌, ◌^�
 ghost use Rattle.std.proofs.lemmas.List.Edits.{sets};
 ghost use Rattle.rank.specs.Vector.{sq};
 ghost use Rattle.listing.specs.Listing.{under};
-ghost use Rattle.listing.specs.Lent.{answered, written};
+ghost use Rattle.listing.specs.Lent.{listed_by, answered, written};
+
+use refusal::Refusal;
 
 // The cost at which a branch ends.
 const COST_CAP: u32 = 128;
 
 // How many vectors cost less: the cells that the listing takes.
 const CELLS: usize = 14674;
-
-// What `list` answers: number 0 and how many cells it filled, or number 8 and none.
-#[derive(Clone, Copy)]
-pub struct Listed {
-    pub number: u32,
-    pub count: usize,
-}
 
 // The cost of a rank.
 fn square(r: u32) -> u32
@@ -49,30 +44,25 @@ fn under_cap(out: &mut [u32], n: usize, row: u32, left: u32, spent: u32) -> usiz
     }
     let rest = left - 1;
     let mut at = n;
-    let mut r: u32 = 0;
-    loop {
+    for r in 0..16u32 {
         let cost = spent + square(r);
         if COST_CAP <= cost + rest {
             break;
         }
         let next = with_rank(row, 7 - rest, r);
         at = under_cap(out, at, next, rest, cost);
-        r += 1;
     }
     at
 }
 
-// Lists the rank vectors of cost below 128 into `out`. A buffer that is too short is refused and stays as it was; the cells past the
-// listing stay too.
-pub fn list(out: &mut [u32]) -> Listed
-    ensures { (result ≡ answered (length out.old)) × (out.new ≡ written out.old) }
+// Lists the rank vectors of cost below 128 into `out`, and answers how many cells it filled. A buffer that is too short is refused and stays
+// as it was; the cells past the listing stay too.
+pub fn list(out: &mut [u32]) -> Result<usize, Refusal>
+    ensures { (listed_by result ≡ answered (length out.old)) × (out.new ≡ written out.old) }
 {
     if out.len() < CELLS {
-        return Listed {
-            number: refusal::NO_ROOM,
-            count: 0,
-        };
+        return Err(Refusal::NoRoom);
     }
     let count = under_cap(out, 0, 0, 8, 0);
-    Listed { number: 0, count }
+    Ok(count)
 }

@@ -23,8 +23,8 @@ returns-then-left-eq0 t c =
     (omega (arith, ap length e), rw e refl)
 
 -- ---- the loop over the ranks of the first open coordinate
-pub loop-cost-init : goal.loop-cost-init
-loop-cost-init t c =
+pub loop-r-init : goal.loop-r-init
+loop-r-init t c =
     let a = c.args in
     let e = rest_all a.left a.row a.spent (omega arith) in
     (omega arith, refl, omega (arith, ap length e), ap (sets a.out.now a.n) (sym e))
@@ -41,7 +41,7 @@ more left row spent r cost next e h n = rest_more (left - 1) row spent r next (s
 pub under_cap-at-requires : goal.under_cap-at-requires
 under_cap-at-requires t c =
     let a = c.args in
-    let l = c.loop-cost in
+    let l = c.loop-r in
     let e : 7 - (a.left - 1) + 1 ≡ 8 - (a.left - 1) = omega arith in
     let m = more a.left a.row a.spent l.r c.square.result c.with_rank-next.result c.square.ensures.0 c.if-cost-rest-ge-COST_CAP.false
     c.with_rank-next.ensures.0 in
@@ -49,10 +49,10 @@ under_cap-at-requires t c =
     (rest_of (a.left - 1) a.row a.spent (l.r + 1)) in
     (omega arith, (omega arith, omega arith, rw e at c.with_rank-next.ensures.1, omega (arith, c.requires.3, l.invariant.1, l.invariant.2, long)))
 
-pub loop-cost-preserved : goal.loop-cost-preserved
-loop-cost-preserved t c =
+pub loop-r-preserved : goal.loop-r-preserved
+loop-r-preserved t c =
     let a = c.args in
-    let l = c.loop-cost in
+    let l = c.loop-r in
     let f = c.under_cap-at in
     let listed = under (a.left - 1) c.with_rank-next.result (a.spent + c.square.result) in
     let later = rest_of (a.left - 1) a.row a.spent (l.r + 1) in
@@ -65,9 +65,9 @@ loop-cost-preserved t c =
       cc (m, sets-append ℕ listed later l.out l.at, f.ensures.0, f.ensures.1, l.invariant.3),
     )
 
-pub returns : goal.returns
-returns t c =
+pub returns-then-cost-rest-ge-COST_CAP : goal.returns-then-cost-rest-ge-COST_CAP
+returns-then-cost-rest-ge-COST_CAP t c =
     let a = c.args in
-    let l = c.loop-cost in
+    let l = c.loop-r in
     let e = rest_none (a.left - 1) a.row a.spent l.r (omega (arith, c.square.ensures.0, c.if-cost-rest-ge-COST_CAP.true)) in
     (omega (arith, ap length e, l.invariant.2), ap (sets l.out l.at) (sym e) ∙ l.invariant.3)

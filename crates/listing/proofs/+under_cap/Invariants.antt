@@ -1,6 +1,6 @@
 -- `listing::under_cap`: the measure of the calls is the number of open coordinates. The loop's invariant says what is left: to store the rest of the
 -- listing from `at` on gives what to store all of it from `n` on would have given. Assumes nothing.
-use Rattle.std.proofs.Common.{◌≡◌, ◌+◌, ◌-◌, ◌≤◌, length}
+use Rattle.std.proofs.Common.{◌≡◌, ◌+◌, ◌≤◌, length}
 use Rattle.std.proofs.lemmas.List.Edits.{sets}
 use Rattle.listing.specs.Listing.{under}
 use Rattle.listing.proofs.Rest.{rest_of}
@@ -9,10 +9,7 @@ use Rattle.listing.proofs.+under_cap.Given as goal
 abbrev pub decreases-under_cap : goal.decreases-under_cap
 decreases-under_cap l = l.left
 
-abbrev pub invariant-loop-cost : goal.invariant-loop-cost
-invariant-loop-cost l =
+abbrev pub invariant-loop-r : goal.invariant-loop-r
+invariant-loop-r l =
     (l.r ≤ 6) × (length l.out ≡ length l.initial.out) × (l.at + length (rest_of l.rest l.row l.spent l.r) ≡ l.n + length (under l.left l.row l.spent))
     × (sets l.out l.at (rest_of l.rest l.row l.spent l.r) ≡ sets l.initial.out l.n (under l.left l.row l.spent))
-
-abbrev pub decreases-loop-cost : goal.decreases-loop-cost
-decreases-loop-cost l = 6 - l.r

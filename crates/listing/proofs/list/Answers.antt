@@ -4,9 +4,8 @@ use Rattle.std.proofs.lemmas.List.Edits.{sets}
 use lib.Seq.{sets-eq}
 use borrow.Author.Tests.{le-ltb}
 use Rattle.listing.specs.Listing.{listing, under}
-use Rattle.listing.specs.Lent.{cells}
+use Rattle.listing.specs.Lent.{cells, Listed}
 use Rattle.listing.specs.Laws.Listed.{count}
-use Rattle.listing.specs.declared.Listed.{Listed}
 use Rattle.listing.proofs.list.Goals as goal
 
 many : length (under 8 0 0) ≡ cells
