@@ -23,10 +23,16 @@ fn print_signed(rt: &impl Print, k: i32) -> io::Result<()> {
 }
 
 fn print_root(rt: &impl Print, x: f64) -> io::Result<()> {
-    let r = root::root(x);
-    let number = r.number;
-    let bits = f64::to_bits(r.root);
-    print!(rt; "{number} {bits:016x}")
+    match root::root(x) {
+        Ok(r) => {
+            let bits = f64::to_bits(r);
+            print!(rt; "0 {bits:016x}")
+        }
+        Err(why) => {
+            let number = why.number();
+            print!(rt; "{number} 0000000000000000")
+        }
+    }
 }
 
 fn print_rounded(rt: &impl Print, x: f64) -> io::Result<()> {

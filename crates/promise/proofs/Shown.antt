@@ -21,9 +21,8 @@ use Rattle.tetra.specs.Demand2.{decodes, round_trip, accepts, refuses, refused_i
 use Rattle.tetra.specs.declared.Encoded.{Encoded}
 use Rattle.float.specs.Value.{mag_units, is_minus, zero64}
 use Rattle.float.specs.Laws.Exact.{no_digits, some-digits}
-use Rattle.root.specs.Root.{NearestRoot, rooted}
+use Rattle.root.specs.Root.{NearestRoot, Rooted, rooted}
 use Rattle.root.specs.Nearest.{rooted-nearest}
-use Rattle.root.specs.declared.Rooted.{Rooted}
 use Rattle.score.specs.Samples.{AllFit, sample_number}
 use Rattle.score.specs.Scale.{largest_of, lower_scale, scales}
 use Rattle.score.specs.declared.Scales.{Scales}

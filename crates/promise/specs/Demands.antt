@@ -49,8 +49,7 @@ use Rattle.tetra.specs.declared.Encoded.{Encoded}
 use Rattle.float.specs.Value.{mag_units, is_minus, zero64}
 use Rattle.float.specs.Calls.{quotients_of}
 use Rattle.float.specs.Distance.{sq_dist, margin}
-use Rattle.root.specs.Root.{NearestRoot}
-use Rattle.root.specs.declared.Rooted.{Rooted}
+use Rattle.root.specs.Root.{NearestRoot, Rooted}
 use Rattle.score.specs.Score.{doubles_of}
 use Rattle.score.specs.declared.Scored.{Scored}
 use Rattle.score.specs.declared.Scales.{Scales}

@@ -18,6 +18,7 @@ ghost use Rattle.promise.specs.Demands.{PointOfWord, BackToWord};
 ghost use Rattle.promise.specs.Demands.{RefusesOthers, AcceptsMembers, KeepsPoint, RefusesByFour, SaysWhy};
 ghost use Rattle.promise.specs.Demands.{Numbered, KeepsCode, ReturnsNearest, Scores, Scaled};
 ghost use Rattle.promise.specs.Demands.{RootIsNearest, RootOfZero, RootRefused};
+ghost use Rattle.root.specs.Root.{rooted_by};
 ghost use Rattle.promise.specs.Demands.{ParsesPages, ParsesNoOther, PrintsPages, PrintsRefusal};
 ghost use Rattle.promise.specs.Demands.{FormsPages, FormsPage, RefusesToForm};
 ghost use Rattle.promise.specs.Demands.{WritesPage, CodesBlocks, WritesNearest, RefusesToWrite, WritesOthers};
@@ -34,7 +35,7 @@ use encoder::Code;
 use even::Decoded;
 use made::Made;
 use page::{Formed, PageRead, Parsed};
-use root::Rooted;
+use refusal::Refusal;
 use score::{Scales, Scored};
 use shown::Printed;
 use summary::Summed;
@@ -181,10 +182,10 @@ pub fn scale_of(samples: [f64; 24]) -> Scales
 
 // ---- roots
 // `root`.
-pub fn root_of(x: f64) -> Rooted
-    ensures root_is_nearest { RootIsNearest x result }
-    ensures root_of_zero { RootOfZero x result }
-    ensures root_refused { RootRefused x result }
+pub fn root_of(x: f64) -> Result<f64, Refusal>
+    ensures root_is_nearest { RootIsNearest x (rooted_by result) }
+    ensures root_of_zero { RootOfZero x (rooted_by result) }
+    ensures root_refused { RootRefused x (rooted_by result) }
 {
     root::root(x)
 }

@@ -1,12 +1,14 @@
 -- THE ROOT: the computed double is the nearest to the exact root, and no other double is. The steps are in Laws.antt. Assumes nothing.
-use Rattle.std.specs.Prelude.{◌≡◌, true, false, ℕ, zero, suc, ◌≤◌, ◌<◌, T, Float}
+use Rattle.std.specs.Prelude.{◌≡◌, true, false, ℕ, zero, suc, ◌≤◌, ◌<◌, T, Float, Result, Ok, Err, refl}
+use Rattle.std.specs.Result.{result_unwrap_or}
 use Rattle.std.proofs.Common.{sym, ◌∙◌, subst, true≢false, le_antisymm, lt_of_not-le, le_of_suc-le-suc, lt_irrefl}
 use Rattle.std.specs.Float.{nan, inf, fin, binary64}
 use Rattle.std.specs.Float.Ieee.{fits}
 use Rattle.std.specs.Float.Ieee.Scale.{finite}
-use Rattle.float.specs.Value.{mag_units, is_minus}
+use Rattle.refusal.specs.declared.Refusal.{Refusal}
+use Rattle.float.specs.Value.{mag_units, is_minus, zero64}
 use Rattle.float.specs.Laws.Exact.{same_units, zero-fits, no_digits, some-digits}
-use Rattle.root.specs.Root.{NearestRoot, whole_root, root_of, rooted}
+use Rattle.root.specs.Root.{NearestRoot, whole_root, root_of, rooted_by, rooted}
 use Rattle.root.specs.Laws.{leading, dropped, cut, floor_is, low_digits, high_digits, held-root, nearest_of, not_less}
 
 -- ---- of a finite double above zero, the computed root is the nearest
@@ -42,3 +44,8 @@ rooted-finite (fin true (suc m) e) f = (zero-fits, tt)
 rooted-finite (fin false (suc m) e) f =
     let r = root-nearest (fin false (suc m) e) f tt (some-digits false m e) in
     (r.fit, r.fin)
+
+-- the root of an answer, +0.0 where there is none
+pub root_or_zero : (r : Result Float Refusal) → result_unwrap_or r zero64 ≡ (rooted_by r).root
+root_or_zero (Ok x) = refl
+root_or_zero (Err e) = refl

@@ -1,11 +1,11 @@
 -- The root of a double. Which double is the nearest to the exact root is stated over whole numbers, by squares. Definitions only.
-use Rattle.std.specs.Prelude.{true, false, cond, ◌≡◌, ℕ, zero, suc, ◌+◌, ◌-◌, ◌*◌, ◌/◌, ◌^◌, ◌<◌, T, leb, ltb, Float}
+use Rattle.std.specs.Prelude.{true, false, cond, ◌≡◌, ℕ, zero, suc, ◌+◌, ◌-◌, ◌*◌, ◌/◌, ◌^◌, ◌<◌, T, leb, ltb, Float, Result, Ok, Err}
 use Rattle.std.specs.Float.{nan, inf, fin, binary64}
 use Rattle.std.specs.Float.Ieee.{fits, size, round}
 use Rattle.std.specs.Float.Ieee.Scale.{finite}
-use Rattle.refusal.specs.Refusal.{out_of_range}
+use Rattle.refusal.specs.declared.Refusal.{Refusal}
+use Rattle.refusal.specs.Refusal.{out_of_range, number_of}
 use Rattle.float.specs.Value.{U, mag_units, is_minus, zero64}
-use Rattle.root.specs.declared.Rooted.{Rooted}
 
 -- r is the double nearest to the root of x. x is mag_units x units, and one is U units, so the root of x is √(mag_units x * U) units. The middle
 -- of r and another double y is half of mag_units y + mag_units r. The root lies above the middle of r and each smaller double, and below the
@@ -45,6 +45,15 @@ unfoldable pub root_of : Float → Float
 root_of x = round binary64 false (root_units x) U
 
 -- ---- the answer for every double: a NaN, an infinity and a negative have no root; either zero is its own
+-- an answer of `root` in document 01's terms: number 0 and the root, or the number of a refusal and +0.0
+pub record Rooted : Type 0 where
+  pub number : ℕ
+  pub root : Float
+
+abbrev pub rooted_by : Result Float Refusal → Rooted
+rooted_by (Ok r) = record { number = 0; root = r }
+rooted_by (Err r) = record { number = number_of r; root = zero64 }
+
 abbrev pub no_root : Rooted
 no_root = record { number = out_of_range; root = zero64 }
 

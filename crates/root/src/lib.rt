@@ -2,15 +2,10 @@
 #![tactic(auto)]
 
 ghost use Rattle.std.specs.Prelude.{◌≡◌, ◌*◌, ◌^◌, ◌≤◌, ◌<◌};
-ghost use Rattle.root.specs.Root.{NearestRoot, rooted};
+ghost use Rattle.root.specs.Root.{NearestRoot, rooted_by, rooted};
 ghost use Rattle.root.specs.Inner.{Above, Apart, Even, Raised, IsRoot, Step, Picked};
 
-// The number is 0, or 7 with the root +0.0.
-#[derive(Clone, Copy)]
-pub struct Rooted {
-    pub number: u32,
-    pub root: f64,
-}
+use refusal::Refusal;
 
 // x is m * 2^k units.
 #[derive(Clone, Copy)]
@@ -129,22 +124,16 @@ fn root_above_zero(x: f64) -> f64
 }
 
 // The double nearest to the root of x. Either zero is its own root; a NaN, an infinity or a negative is refused.
-pub fn root(x: f64) -> Rooted
-    ensures { result ≡ rooted x }
+pub fn root(x: f64) -> Result<f64, Refusal>
+    ensures { rooted_by result ≡ rooted x }
 {
     if x == 0.0 {
-        return Rooted { number: 0, root: x };
+        return Ok(x);
     }
     if 0.0 < x {
         if x < 1.0 / 0.0 {
-            return Rooted {
-                number: 0,
-                root: root_above_zero(x),
-            };
+            return Ok(root_above_zero(x));
         }
     }
-    Rooted {
-        number: refusal::OUT_OF_RANGE,
-        root: 0.0,
-    }
+    Err(Refusal::OutOfRange)
 }

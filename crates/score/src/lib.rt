@@ -130,7 +130,7 @@ fn over_root(d: f64, nn: f64) -> f64
     ensures { result ≡ score_of d nn }
 {
     if 0.0 < nn {
-        return d / root::root(nn).root;
+        return d / root::root(nn).unwrap_or(0.0);
     }
     -1.0 / 0.0
 }
@@ -182,7 +182,7 @@ fn unit_norm(x: [f64; 24], m: f64) -> f64
     ensures { result ≡ unit_norm x m }
 {
     let q = float::quotients(x, m);
-    root::root(dot(q, q)).root
+    root::root(dot(q, q)).unwrap_or(0.0)
 }
 
 // ALPHA * m * n over the root of 24.
