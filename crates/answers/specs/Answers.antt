@@ -1,9 +1,11 @@
 -- The answer to a request line: a line of text for every line of bytes. Assumes nothing.
-use Rattle.std.specs.Prelude.{cond, ◌&&◌, List, ◌++◌, ℕ, ltb, eqb, ℤ, Float, length}
+use Rattle.std.specs.Prelude.{cond, List, ◌++◌, ℕ, ltb, eqb, ℤ, Float}
+use Rattle.std.specs.Option.{option_map_or}
 use Prim.Native.String.{String}
 use Rattle.refusal.specs.Refusal.{no_page}
 use Rattle.text.specs.Text.{bytes, line, decimal, listed, hex, refused_text}
 use Rattle.text.specs.Doubles.{bits_shown}
+use Rattle.text.specs.Lines.{onRead}
 use Rattle.tetra.specs.Tetra.{point_of}
 use Rattle.tetra.specs.Encode.{encode_of}
 use Rattle.tetra.specs.declared.Encoded.{Encoded}
@@ -14,8 +16,8 @@ use Rattle.score.specs.declared.Scales.{Scales}
 use Rattle.search.specs.Parity.{both_parities}
 use Rattle.encoder.specs.Encode.{encode_at_over, encode_over}
 use Rattle.encoder.specs.declared.Code.{Code}
-use Rattle.request.specs.Words.{after_name, hex_after, decimal_after, double_after, onNumber}
-use Rattle.request.specs.Rows.{samples_after, point_after, onDouble}
+use Rattle.request.specs.Words.{after_name, last_of, hex_after, decimal_after, double_after}
+use Rattle.request.specs.Rows.{samples_after, point_after}
 
 -- ---- lines
 -- a line that is no request is refused as a text that is no page is: with 9
@@ -55,15 +57,15 @@ score_line t = by_number t.number (line (bytes "score=") (double_text t.score))
 -- ---- requests: s is the line, and the arguments stand from the place `at` to its end. Any other line is no request
 -- the answer f to a row of 24 samples
 abbrev pub on_samples : List ℕ → ℕ → (List Float → List ℕ) → List ℕ
-on_samples s at f = cond ((samples_after s at).good && eqb (samples_after s at).next (length s)) (f (samples_after s at).x) no_request
+on_samples s at f = option_map_or f (last_of s (samples_after s at)) no_request
 
 -- the answer f to a row of 24 coordinates
 abbrev pub on_point : List ℕ → ℕ → (List ℤ → List ℕ) → List ℕ
-on_point s at f = cond ((point_after s at).good && eqb (point_after s at).next (length s)) (f (point_after s at).y) no_request
+on_point s at f = option_map_or f (last_of s (point_after s at)) no_request
 
 -- decode W
 unfoldable pub decode_answer : List ℕ → ℕ → List ℕ
-decode_answer s at = onNumber (hex_after s at) no_request (λ w next. cond (eqb next (length s)) (point_line (point_of w)) no_request)
+decode_answer s at = option_map_or (λ w. point_line (point_of w)) (last_of s (hex_after s at)) no_request
 
 -- point C0 .. C23
 unfoldable pub point_answer : List ℕ → ℕ → List ℕ
@@ -76,8 +78,8 @@ setting_of n = cond (ltb n 8) n 8
 -- scale N S X0 .. X23: the code where the parities ps are searched,
 unfoldable pub scale_over : List ℕ → List ℕ → ℕ → List ℕ
 scale_over ps s at =
-    onNumber (decimal_after s at) no_request (λ n after.
-    onDouble (double_after s after) no_request (λ by next.
+    onRead (decimal_after s at) no_request (λ n after.
+    onRead (double_after s after) no_request (λ by next.
     on_samples s next (λ x. code_line (encode_at_over ps x by (setting_of n)))))
 
 -- and over both, the full coder's
@@ -87,7 +89,7 @@ scale_answer = scale_over both_parities
 -- auto N X0 .. X23, likewise
 unfoldable pub auto_over : List ℕ → List ℕ → ℕ → List ℕ
 auto_over ps s at =
-    onNumber (decimal_after s at) no_request (λ n next. on_samples s next (λ x. code_line (encode_over ps x (setting_of n))))
+    onRead (decimal_after s at) no_request (λ n next. on_samples s next (λ x. code_line (encode_over ps x (setting_of n))))
 
 abbrev pub auto_answer : List ℕ → ℕ → List ℕ
 auto_answer = auto_over both_parities
@@ -99,14 +101,12 @@ lower_answer s at = on_samples s at (λ x. scales_line (scales x))
 -- score X0 .. X23 C0 .. C23
 unfoldable pub score_answer : List ℕ → ℕ → List ℕ
 score_answer s at =
-    cond (samples_after s at).good
-    (on_point s (samples_after s at).next (λ y. score_line (scored (samples_after s at).x y)))
-    no_request
+    onRead (samples_after s at) no_request (λ x row. on_point s row (λ y. score_line (scored x y)))
 
 -- ---- any line
 -- the request f where the line begins with its name, and else the answer `other`
 abbrev pub named : String → (List ℕ → ℕ → List ℕ) → List ℕ → List ℕ → List ℕ
-named name f s other = cond (ltb 0 (after_name s (bytes name))) (f s (after_name s (bytes name))) other
+named name f s other = option_map_or (f s) (after_name s (bytes name)) other
 
 -- the requests auto, lower and score
 unfoldable pub of_samples : List ℕ → List ℕ

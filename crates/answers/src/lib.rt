@@ -23,9 +23,7 @@ ghost use Rattle.answers.specs.Answers.{decode_answer, point_answer, setting_of,
 ghost use Rattle.answers.specs.Answers.{of_samples, answer_of};
 
 use encoder::Code;
-use request::{
-    Double, Number, after_name, read_decimal, read_double, read_hex, read_point, read_samples,
-};
+use request::{after_name, last, read_decimal, read_double, read_hex, read_point, read_samples};
 use score::{Scales, Scored};
 use tetra::Encoded;
 use text::Printed;
@@ -135,28 +133,25 @@ fn score_line(t: Scored) -> Reply
 // ---- requests: the arguments stand from `at` to the line's end
 
 // The point of a word.
+#[tactic(auto, unfolding(crate::specs::Answers::decode_answer))]
 fn decode(s: &[u8], at: usize) -> Reply
     ensures { result ≡ decode_answer s.now at }
 {
-    let Number::Read(word, next) = read_hex(s, at) else {
+    let Some(word) = last(s, read_hex(s, at)) else {
         return no_request();
     };
-    if next != s.len() {
-        return no_request();
-    }
     point_line(tetra::decode(word))
 }
 
 // The word of a point.
+#[tactic(auto, unfolding(crate::specs::Answers::point_answer))]
 fn point(s: &[u8], at: usize) -> Reply
     ensures { result ≡ point_answer s.now at }
 {
-    let p = read_point(s, at);
-    if p.good & (p.next == s.len()) {
-        let y = p.y;
-        return word_line(tetra::encode(y));
-    }
-    no_request()
+    let Some(y) = last(s, read_point(s, at)) else {
+        return no_request();
+    };
+    word_line(tetra::encode(y))
 }
 
 // A setting of the shrinks: from 8 on all are the same.
@@ -167,101 +162,92 @@ fn setting(n: u64) -> u32
 }
 
 // The code at a scale. Here and below, `odd` says whether odd points are searched too.
+#[tactic(auto, unfolding(crate::specs::Answers::scale_over))]
 pub fn scale(s: &[u8], at: usize, odd: bool) -> Reply
     ensures { result ≡ scale_over (parities_of odd) s.now at }
 {
-    let Number::Read(n, after) = read_decimal(s, at) else {
+    let Some((n, after)) = read_decimal(s, at) else {
         return no_request();
     };
-    let Double::Read(by, next) = read_double(s, after) else {
+    let Some((by, row)) = read_double(s, after) else {
         return no_request();
     };
-    let p = read_samples(s, next);
-    if p.good & (p.next == s.len()) {
-        let x = p.x;
-        return code_line(encoder::encode_at_scale_over(x, by, setting(n), odd));
-    }
-    no_request()
+    let Some(x) = last(s, read_samples(s, row)) else {
+        return no_request();
+    };
+    code_line(encoder::encode_at_scale_over(x, by, setting(n), odd))
 }
 
 // The code at the scale that the samples give.
+#[tactic(auto, unfolding(crate::specs::Answers::auto_over))]
 pub fn auto(s: &[u8], at: usize, odd: bool) -> Reply
     ensures { result ≡ auto_over (parities_of odd) s.now at }
 {
-    let Number::Read(n, next) = read_decimal(s, at) else {
+    let Some((n, row)) = read_decimal(s, at) else {
         return no_request();
     };
-    let p = read_samples(s, next);
-    if p.good & (p.next == s.len()) {
-        let x = p.x;
-        return code_line(encoder::encode_with_over(x, setting(n), odd));
-    }
-    no_request()
+    let Some(x) = last(s, read_samples(s, row)) else {
+        return no_request();
+    };
+    code_line(encoder::encode_with_over(x, setting(n), odd))
 }
 
 // The largest magnitude and the lower scale.
+#[tactic(auto, unfolding(crate::specs::Answers::lower_answer))]
 fn lower(s: &[u8], at: usize) -> Reply
     ensures { result ≡ lower_answer s.now at }
 {
-    let p = read_samples(s, at);
-    if p.good & (p.next == s.len()) {
-        let x = p.x;
-        return scales_line(score::lower_scale(x));
-    }
-    no_request()
+    let Some(x) = last(s, read_samples(s, at)) else {
+        return no_request();
+    };
+    scales_line(score::lower_scale(x))
 }
 
 // The score of samples and a point.
+#[tactic(auto, unfolding(crate::specs::Answers::score_answer))]
 fn score(s: &[u8], at: usize) -> Reply
     ensures { result ≡ score_answer s.now at }
 {
-    let p = read_samples(s, at);
-    if !p.good {
+    let Some(samples) = read_samples(s, at) else {
         return no_request();
-    }
-    let q = read_point(s, p.next);
-    if q.good & (q.next == s.len()) {
-        let x = p.x;
-        let y = q.y;
-        return score_line(score::t_of(x, y));
-    }
-    no_request()
+    };
+    let (x, row) = samples;
+    let Some(y) = last(s, read_point(s, row)) else {
+        return no_request();
+    };
+    score_line(score::t_of(x, y))
 }
 
 // ---- any line, by its first word
 
+#[tactic(auto, unfolding(crate::specs::Answers::of_samples))]
 fn of_samples(s: &[u8]) -> Reply
     ensures { result ≡ of_samples s.now }
 {
-    let at = after_name(s, b"auto");
-    if 0 < at {
+    if let Some(at) = after_name(s, b"auto") {
         return auto(s, at, true);
     }
-    let at = after_name(s, b"lower");
-    if 0 < at {
+    if let Some(at) = after_name(s, b"lower") {
         return lower(s, at);
     }
-    let at = after_name(s, b"score");
-    if 0 < at {
+    if let Some(at) = after_name(s, b"score") {
         return score(s, at);
     }
     no_request()
 }
 
 // The line's end, an LF, is not among its bytes.
+#[tactic(auto, unfolding(crate::specs::Answers::answer_of))]
 pub fn answer(line: &[u8]) -> Reply
     ensures { result ≡ answer_of line.now }
 {
-    let at = after_name(line, b"decode");
-    if 0 < at {
+    if let Some(at) = after_name(line, b"decode") {
         return decode(line, at);
     }
-    let at = after_name(line, b"point");
-    if 0 < at {
+    if let Some(at) = after_name(line, b"point") {
         return point(line, at);
     }
-    let at = after_name(line, b"scale");
-    if 0 < at {
+    if let Some(at) = after_name(line, b"scale") {
         return scale(line, at, true);
     }
     of_samples(line)

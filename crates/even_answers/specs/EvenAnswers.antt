@@ -1,7 +1,8 @@
 -- The answer to a request line, where the even profile has requests of its own: a line of text for every line of bytes. Lines, readers and the
 -- full coder's requests are those of answers/specs/Answers. Definitions only.
-use Rattle.std.specs.Prelude.{cond, List, ℕ, eqb, length}
-use Rattle.request.specs.Words.{hex_after, onNumber}
+use Rattle.std.specs.Prelude.{List, ℕ}
+use Rattle.std.specs.Option.{option_map_or}
+use Rattle.request.specs.Words.{last_of, hex_after}
 use Rattle.search.specs.Parity.{even_parities}
 use Rattle.even.specs.Even.{even_decoded, even_encoded}
 use Rattle.even.specs.declared.Decoded.{Decoded}
@@ -14,7 +15,7 @@ decoded_line d = by_number d.number (point_line d.point)
 -- ---- requests: s is the line, and the arguments stand from the place `at` to its end. Any other line is no request
 -- edecode W
 unfoldable pub even_decode_answer : List ℕ → ℕ → List ℕ
-even_decode_answer s at = onNumber (hex_after s at) no_request (λ w next. cond (eqb next (length s)) (decoded_line (even_decoded w)) no_request)
+even_decode_answer s at = option_map_or (λ w. decoded_line (even_decoded w)) (last_of s (hex_after s at)) no_request
 
 -- epoint C0 .. C23
 unfoldable pub even_point_answer : List ℕ → ℕ → List ℕ

@@ -16,7 +16,7 @@ ghost use Rattle.even_answers.specs.EvenAnswers.{decoded_line, even_decode_answe
 
 use answers::{Reply, no_request, point_line, refused, word_line};
 use even::Decoded;
-use request::{Number, after_name, read_hex, read_point};
+use request::{after_name, last, read_hex, read_point};
 
 // ---- lines
 
@@ -33,50 +33,44 @@ fn decoded_line(d: Decoded) -> Reply
 // ---- requests: the arguments stand from `at` to the line's end
 
 // The point of an even word.
+#[tactic(auto, unfolding(crate::specs::EvenAnswers::even_decode_answer))]
 fn decode(s: &[u8], at: usize) -> Reply
     ensures { result ≡ even_decode_answer s.now at }
 {
-    let Number::Read(word, next) = read_hex(s, at) else {
+    let Some(word) = last(s, read_hex(s, at)) else {
         return no_request();
     };
-    if next != s.len() {
-        return no_request();
-    }
     decoded_line(even::decode(word))
 }
 
 // The word of an even point.
+#[tactic(auto, unfolding(crate::specs::EvenAnswers::even_point_answer))]
 fn point(s: &[u8], at: usize) -> Reply
     ensures { result ≡ even_point_answer s.now at }
 {
-    let p = read_point(s, at);
-    if p.good & (p.next == s.len()) {
-        let y = p.y;
-        return word_line(even::encode_point(y));
-    }
-    no_request()
+    let Some(y) = last(s, read_point(s, at)) else {
+        return no_request();
+    };
+    word_line(even::encode_point(y))
 }
 
 // ---- any line, by its first word
 
 // The line's end, an LF, is not among its bytes. The `false` of two calls says that no odd points are searched.
+#[tactic(auto, unfolding(crate::specs::EvenAnswers::even_answer_of))]
 pub fn answer(line: &[u8]) -> Reply
     ensures { result ≡ even_answer_of line.now }
 {
-    let at = after_name(line, b"edecode");
-    if 0 < at {
+    if let Some(at) = after_name(line, b"edecode") {
         return decode(line, at);
     }
-    let at = after_name(line, b"epoint");
-    if 0 < at {
+    if let Some(at) = after_name(line, b"epoint") {
         return point(line, at);
     }
-    let at = after_name(line, b"escale");
-    if 0 < at {
+    if let Some(at) = after_name(line, b"escale") {
         return answers::scale(line, at, false);
     }
-    let at = after_name(line, b"eauto");
-    if 0 < at {
+    if let Some(at) = after_name(line, b"eauto") {
         return answers::auto(line, at, false);
     }
     answers::answer(line)

@@ -1,24 +1,25 @@
 -- What the definition of a number hands on from one byte of a line to the next, and that of a row from one word to the next. Assumes nothing.
-use mathlib.Core.Path.{◌≡◌}
-use mathlib.Core.Bool.{true, cond}
+use mathlib.Core.Path.{◌≡◌, refl, sym, ◌∙◌}
+use mathlib.Core.Bool.{Bool, true, false, cond}
 use mathlib.Core.List.{List, [], ◌∷◌, ◌++◌}
 use Prim.Native.Nat.{ℕ, suc, ◌+◌, ◌-◌, ◌<◌, ◌≤◌}
 use native.Mathlib.Omega.{arith}
-use lib.Dec.{eqb}
-use lib.Ieee.{Float}
-use lib.IntN.{ℤ}
+use borrow.Author.Tests.{ltb-true, ltb-false}
+use lib.Dec.{eqb, ltb}
+use Rattle.std.specs.Char.{to_ascii_lowercase}
+use Rattle.std.specs.Prelude.{Option, Some, None}
 use lib.ListN.{length, get_or, take, drop, drop_of_length-le}
 use lib.Seq.{take_all}
 use Rattle.laws.specs.Laws.Lists.{drop-next}
-use Rattle.text.specs.Lines.{onDigit}
-use Rattle.request.specs.declared.Number.TheVariants.{Bad}
-use Rattle.request.specs.Words.{more_of, counted_of, number_from, double_after, signed_after}
-use Rattle.request.specs.Rows.{onDouble, onSigned, no_samples, samples_from, no_point, coordinates_from}
+use Rattle.text.specs.Lines.{onRead, onDigit, digit_at}
+use Rattle.text.specs.Laws.Lines.{below_letters, above_letters}
+use Rattle.request.specs.Words.{lowered, more_of, counted_of, number_from}
+use Rattle.request.specs.Rows.{row_from}
 
 pub number_step : (base most i v j : ℕ) (s : List ℕ) → i < length s
     → number_from base most i v j (drop i s)
     ≡ cond (eqb (get_or s i 0) 32) (counted_of most i v j)
-    (onDigit (more_of base v (get_or s i 0)) Bad (λ w. number_from base most (i + 1) w (j + 1) (drop (i + 1) s)))
+    (onDigit (more_of base v (get_or s i 0)) None (λ w. number_from base most (i + 1) w (j + 1) (drop (i + 1) s)))
 unfolding number_from
 number_step base most i v j s h = rw (drop-next ℕ 0 s i h)
 
@@ -26,35 +27,44 @@ pub number_end : (base most i v j : ℕ) (s : List ℕ) → length s ≤ i → n
 unfolding number_from
 number_end base most i v j s h = rw (drop_of_length-le s h)
 
--- ---- rows of 24, of which k words were read
-pub samples-step : (s : List ℕ) (k : ℕ) (xs : List Float) (at : ℕ) → k < 24
-    → samples_from s (24 - k) xs at
-    ≡ onDouble (double_after s at) no_samples (λ v m. samples_from s (24 - (k + 1)) (xs ++ (v ∷ [])) m)
-unfolding samples_from
-samples-step s k xs at h =
-    let e : 24 - k ≡ suc (24 - (k + 1)) = omega arith in
-    rw e
+-- ---- a row of 24 words, of which k were read; R is what reading all gives
+module _ {T : Type 0} (word : List ℕ → ℕ → Option (T × ℕ)) (s : List ℕ) (k : ℕ) (xs : List T) (at : ℕ) (R : Option (List T × ℕ)) where
+  row-step : k < 24 → row_from word s (24 - k) xs at ≡ R
+      → onRead (word s at) None (λ v m. row_from word s (24 - (k + 1)) (xs ++ (v ∷ [])) m) ≡ R
+  unfolding row_from
+  row-step h r =
+      let e : 24 - k ≡ suc (24 - (k + 1)) = omega arith in
+      rw e at r
 
-pub point-step : (s : List ℕ) (k : ℕ) (ys : List ℤ) (at : ℕ) → k < 24
-    → coordinates_from s (24 - k) ys at ≡ onSigned (signed_after s at) no_point (λ v m. coordinates_from s (24 - (k + 1)) (ys ++ (v ∷ [])) m)
-unfolding coordinates_from
-point-step s k ys at h =
-    let e : 24 - k ≡ suc (24 - (k + 1)) = omega arith in
-    rw e
+  -- the next is missing
+  pub row_none : k < 24 → row_from word s (24 - k) xs at ≡ R → word s at ≡ None → None ≡ R
+  row_none h r e = rw e at (row-step h r)
 
--- all are read
-pub samples_end : (s : List ℕ) (k : ℕ) (xs : List Float) (at : ℕ) → 24 ≤ k → length xs ≡ 24
-    → samples_from s (24 - k) (take k xs) at ≡ record { good = true; next = at; x = xs }
-unfolding samples_from
-samples_end s k xs at h l =
-    let e : 24 - k ≡ 0 = omega arith in
-    let m : length xs ≤ k = omega arith in
-    rw (e, take_all k xs m)
+  -- it stands there
+  pub row_next : (v : T) (m : ℕ) → k < 24 → row_from word s (24 - k) xs at ≡ R → word s at ≡ Some (v, m)
+      → row_from word s (24 - (k + 1)) (xs ++ (v ∷ [])) m ≡ R
+  row_next v m h r e = rw e at (row-step h r)
 
-pub point_end : (s : List ℕ) (k : ℕ) (ys : List ℤ) (at : ℕ) → 24 ≤ k → length ys ≡ 24
-    → coordinates_from s (24 - k) (take k ys) at ≡ record { good = true; next = at; y = ys }
-unfolding coordinates_from
-point_end s k ys at h l =
-    let e : 24 - k ≡ 0 = omega arith in
-    let m : length ys ≤ k = omega arith in
-    rw (e, take_all k ys m)
+  -- all are read
+  pub row_end : 24 ≤ k → length xs ≡ 24 → row_from word s (24 - k) (take k xs) at ≡ R → Some (xs, at) ≡ R
+  unfolding row_from
+  row_end h l r =
+      let e : 24 - k ≡ 0 = omega arith in
+      let m : length xs ≤ k = omega arith in
+      rw (e, take_all k xs m) at r
+
+-- ---- a digit of either case
+-- from G to Z no letter is a digit, so it does not matter whether these are put in lower case
+pub lower_digit : (b : ℕ) → digit_at (to_ascii_lowercase b) ≡ digit_at (lowered b)
+unfolding lowered
+lower_digit b = go (ltb b 65) (ltb 70 b) (ltb b 91) refl refl refl
+  where
+    go : (p q r : Bool) → ltb b 65 ≡ p → ltb 70 b ≡ q → ltb b 91 ≡ r
+        → digit_at (cond p b (cond r (b + 32) b)) ≡ digit_at (cond p b (cond q b (b + 32)))
+    go true q r hp hq hr = refl
+    go false true true hp hq hr =
+        above_letters (b + 32) (omega (arith, ltb-true 70 b hq))
+        ∙ sym (below_letters b (omega (arith, ltb-true 70 b hq)) (omega (arith, ltb-true b 91 hr)))
+    go false true false hp hq hr = refl
+    go false false true hp hq hr = refl
+    go false false false hp hq hr = absurd (omega (arith, ltb-false 70 b hq, ltb-false b 91 hr))

@@ -3,92 +3,49 @@
 // 24 arguments. No call has a `requires`.
 #![tactic(auto)]
 
-ghost use Rattle.std.specs.Prelude.{◌≡◌, length, drop};
-ghost use Rattle.request.specs.Words.{lowered, digit_in, more_of, counted_of, number_from};
-ghost use Rattle.request.specs.Words.{after_name, hex_after, decimal_after, double_after};
-ghost use Rattle.request.specs.Words.{plus_of, minus_of, signed_after};
-ghost use Rattle.request.specs.Rows.{no_samples, samples_after, no_point, point_after};
+ghost use Rattle.std.specs.Prelude.{◌≡◌, List, ℕ, Option, length, drop};
+ghost use Rattle.request.specs.Words.{digit_in, more_of, counted_of, number_from, number_after, signed_of};
+ghost use Rattle.request.specs.Words.{after_name, last_of, hex_after, decimal_after, double_after, signed_after};
+ghost use Rattle.request.specs.Rows.{row_after, samples_after, point_after};
 
 use text::{byte_at, digit_of, double_of, starts};
 
-// A number and the place after it, or that none stands there.
-#[derive(Clone, Copy)]
-pub enum Number {
-    Read(u64, usize),
-    Bad,
-}
+// A value and the place after it; or none, where no such value stands there.
+pub type Read<T> = Option<(T, usize)>;
 
-// A double, likewise.
-#[derive(Clone, Copy)]
-pub enum Double {
-    Read(f64, usize),
-    Bad,
-}
-
-// A number with its sign, likewise.
-#[derive(Clone, Copy)]
-pub enum Signed {
-    Read(i32, usize),
-    Bad,
-}
-
-// 24 samples and the place after them, or that they do not stand there: then the place is 0, and each sample too.
-#[derive(Clone, Copy)]
-pub struct Samples {
-    pub good: bool,
-    pub next: usize,
-    pub x: [f64; 24],
-}
-
-// 24 coordinates, likewise.
-#[derive(Clone, Copy)]
-pub struct Point {
-    pub good: bool,
-    pub next: usize,
-    pub y: [i32; 24],
-}
-
-// The place after the line's first word where that is `name`; else 0.
-pub fn after_name(s: &[u8], name: &[u8]) -> usize
+// The place after the line's first word where that is `name`.
+#[tactic(auto, using(std::proofs::Common::ne_eqb), unfolding(crate::specs::Words::after_name))]
+pub fn after_name(s: &[u8], name: &[u8]) -> Option<usize>
     ensures { result ≡ after_name s.now name.now }
 {
     if !starts(s, name) {
-        return 0;
+        return None;
     }
     let n = name.len();
-    if s.len() <= n {
-        return n;
+    if n < s.len() && s[n] != b' ' {
+        return None;
     }
-    if byte_at(s, n) != b' ' {
-        return 0;
-    }
-    n
+    Some(n)
+}
+
+// What was read last, behind which the line ends; or none.
+#[tactic(auto, using(std::proofs::Common::ne_eqb))]
+pub fn last<T: Drop>(s: &[u8], read: Read<T>) -> Option<T>
+    ensures { result ≡ last_of s.now read }
+{
+    let (value, next) = read?;
+    (next == s.len()).then_some(value)
 }
 
 // ---- digits of either base
 
-// The byte in lower case where it is a digit from A to F.
-fn lower(b: u8) -> u8
-    ensures { result ≡ lowered b }
-{
-    if b < b'A' {
-        return b;
-    }
-    if b'F' < b {
-        return b;
-    }
-    b + 32
-}
-
 // A digit below the base, of either case.
+#[tactic(auto, using(crate::proofs::Steps::lower_digit), unfolding(crate::specs::Words::digit_in))]
 fn digit(b: u8, base: u64) -> Option<u64>
     ensures { result ≡ digit_in base b }
 {
-    let d = digit_of(lower(b))?;
-    if base <= d {
-        return None;
-    }
-    Some(d)
+    let d = digit_of(b.to_ascii_lowercase())?;
+    (d < base).then_some(d)
 }
 
 // v with one digit more, where that fits.
@@ -100,174 +57,147 @@ fn more(v: u64, b: u8, base: u64) -> Option<u64>
 }
 
 // The number v of j digits, of which there are 1 to `most`; `end` is the place after them.
-fn counted(v: u64, j: usize, end: usize, most: usize) -> Number
+#[tactic(auto, using(std::proofs::Common::ne_eqb), unfolding(crate::specs::Words::counted_of))]
+fn counted(v: u64, j: usize, end: usize, most: usize) -> Read<u64>
     ensures { result ≡ counted_of most end v j }
 {
-    if j == 0 {
-        return Number::Bad;
+    if j == 0 || most < j {
+        return None;
     }
-    if most < j {
-        return Number::Bad;
-    }
-    Number::Read(v, end)
+    Some((v, end))
 }
 
 // The number of the 1 to `most` digits from `first` to the next space or the line's end.
-fn number_from(s: &[u8], first: usize, base: u64, most: usize) -> Number
+fn number_from(s: &[u8], first: usize, base: u64, most: usize) -> Read<u64>
     ensures { result ≡ number_from base most first 0 0 (drop first s.now) }
 {
     let mut v: u64 = 0;
-    let mut j: usize = 0;
-    let mut i = first;
-    while i < s.len() {
+    for i in first..s.len() {
         if s[i] == b' ' {
-            return counted(v, j, i, most);
+            return counted(v, i - first, i, most);
         }
-        let Some(w) = more(v, s[i], base) else {
-            return Number::Bad;
-        };
-        v = w;
-        j += 1;
-        i += 1;
+        v = more(v, s[i], base)?;
     }
-    counted(v, j, i, most)
+    counted(v, s.len().saturating_sub(first), s.len(), most)
 }
 
 // ---- arguments
 
-// 1 to 16 hex digits, of either case.
-pub fn read_hex(s: &[u8], at: usize) -> Number
-    ensures { result ≡ hex_after s.now at }
+// 1 to `most` digits.
+fn number_after(s: &[u8], at: usize, base: u64, most: usize) -> Read<u64>
+    ensures { result ≡ number_after base most s.now at }
 {
     if byte_at(s, at) != b' ' {
-        return Number::Bad;
+        return None;
     }
-    number_from(s, at + 1, 16, 16)
+    number_from(s, at + 1, base, most)
+}
+
+// 1 to 16 hex digits, of either case.
+#[tactic(auto, unfolding(crate::specs::Words::hex_after))]
+pub fn read_hex(s: &[u8], at: usize) -> Read<u64>
+    ensures { result ≡ hex_after s.now at }
+{
+    number_after(s, at, 16, 16)
 }
 
 // One or more decimal digits, of a number below 2^64.
-pub fn read_decimal(s: &[u8], at: usize) -> Number
+#[tactic(auto, unfolding(crate::specs::Words::decimal_after))]
+pub fn read_decimal(s: &[u8], at: usize) -> Read<u64>
     ensures { result ≡ decimal_after s.now at }
 {
-    if byte_at(s, at) != b' ' {
-        return Number::Bad;
-    }
-    number_from(s, at + 1, 10, s.len())
+    number_after(s, at, 10, s.len())
 }
 
 // The 1 to 16 hex digits of a double's bits.
-pub fn read_double(s: &[u8], at: usize) -> Double
+#[tactic(auto, unfolding(crate::specs::Words::double_after))]
+pub fn read_double(s: &[u8], at: usize) -> Read<f64>
     ensures { result ≡ double_after s.now at }
 {
-    let Number::Read(b, next) = read_hex(s, at) else {
-        return Double::Bad;
-    };
-    Double::Read(double_of(b), next)
+    let (bits, next) = read_hex(s, at)?;
+    Some((double_of(bits), next))
 }
 
-// A number above zero or zero, where it fits 32 bits.
-fn plus(n: Number) -> Signed
-    ensures { result ≡ plus_of n }
+// The number of this magnitude, below zero or not, where it fits 32 bits.
+#[tactic(auto, unfolding(crate::specs::Words::signed_of))]
+fn with_sign(magnitude: u64, below: bool) -> Option<i32>
+    ensures { result ≡ signed_of below magnitude }
 {
-    let Number::Read(v, next) = n else {
-        return Signed::Bad;
-    };
-    if 2147483647 < v {
-        return Signed::Bad;
-    }
-    let m = v as i32;
-    Signed::Read(m, next)
-}
-
-// A number behind a minus sign, likewise. The least i32 has no magnitude among them.
-fn minus(n: Number) -> Signed
-    ensures { result ≡ minus_of n }
-{
-    let Number::Read(v, next) = n else {
-        return Signed::Bad;
-    };
-    if 2147483648 < v {
-        return Signed::Bad;
-    }
-    if v == 2147483648 {
-        return Signed::Read(-2147483648, next);
-    }
-    let m = v as i32;
-    Signed::Read(-m, next)
+    let z = i64::try_from(magnitude).ok()?;
+    let z = if below { -z } else { z };
+    i32::try_from(z).ok()
 }
 
 // One or more decimal digits, - before them or not.
-pub fn read_signed(s: &[u8], at: usize) -> Signed
+pub fn read_signed(s: &[u8], at: usize) -> Read<i32>
     ensures { result ≡ signed_after s.now at }
 {
     if byte_at(s, at) != b' ' {
-        return Signed::Bad;
+        return None;
     }
-    let first = at + 1;
-    if byte_at(s, first) == b'-' {
-        return minus(number_from(s, first + 1, 10, s.len()));
-    }
-    plus(number_from(s, first, 10, s.len()))
+    let below = byte_at(s, at + 1) == b'-';
+    let first = if below { at + 2 } else { at + 1 };
+    let (magnitude, next) = number_from(s, first, 10, s.len())?;
+    Some((with_sign(magnitude, below)?, next))
 }
 
 // ---- rows
 
-fn no_samples() -> Samples
-    ensures { result ≡ no_samples }
-{
-    Samples {
-        good: false,
-        next: 0,
-        x: [0.0f64; 24],
+// What a word of a row stands for.
+trait Word: Copy {
+    ghost after: { List ℕ → ℕ → Option (Self × ℕ) };
+
+    // What an array holds before it is read.
+    const NONE: Self;
+
+    fn read(s: &[u8], at: usize) -> Read<Self>
+        ensures { result ≡ after s.now at };
+}
+
+impl Word for f64 {
+    ghost after = { double_after };
+
+    const NONE: f64 = 0.0;
+
+    fn read(s: &[u8], at: usize) -> Read<f64> {
+        read_double(s, at)
     }
+}
+
+impl Word for i32 {
+    ghost after = { signed_after };
+
+    const NONE: i32 = 0;
+
+    fn read(s: &[u8], at: usize) -> Read<i32> {
+        read_signed(s, at)
+    }
+}
+
+// 24 words.
+fn read_row<T: Word>(s: &[u8], at: usize) -> Read<[T; 24]>
+    ensures { result ≡ row_after T.after s.now at }
+{
+    let mut row = [T::NONE; 24];
+    let mut next = at;
+    for k in 0..24usize {
+        let (v, after) = T::read(s, next)?;
+        row[k] = v;
+        next = after;
+    }
+    Some((row, next))
 }
 
 // 24 doubles.
-pub fn read_samples(s: &[u8], at: usize) -> Samples
+pub fn read_samples(s: &[u8], at: usize) -> Read<[f64; 24]>
     ensures { result ≡ samples_after s.now at }
 {
-    let mut x = [0.0f64; 24];
-    let mut next = at;
-    for k in 0..24usize {
-        let Double::Read(v, after) = read_double(s, next) else {
-            return no_samples();
-        };
-        x[k] = v;
-        next = after;
-    }
-    Samples {
-        good: true,
-        next,
-        x,
-    }
-}
-
-fn no_point() -> Point
-    ensures { result ≡ no_point }
-{
-    Point {
-        good: false,
-        next: 0,
-        y: [0i32; 24],
-    }
+    read_row::<f64>(s, at)
 }
 
 // 24 numbers with their signs.
-pub fn read_point(s: &[u8], at: usize) -> Point
+pub fn read_point(s: &[u8], at: usize) -> Read<[i32; 24]>
     ensures { result ≡ point_after s.now at }
 {
-    let mut y = [0i32; 24];
-    let mut next = at;
-    for j in 0..24usize {
-        let Signed::Read(v, after) = read_signed(s, next) else {
-            return no_point();
-        };
-        y[j] = v;
-        next = after;
-    }
-    Point {
-        good: true,
-        next,
-        y,
-    }
+    read_row::<i32>(s, at)
 }
