@@ -25,7 +25,9 @@ use Rattle.rows.specs.Laws.Middle.{middle_row_in, middle-lt, middle_row-class}
 use Rattle.rows.specs.Answers.{class_index_in, class_index_out, class_index-back, mixed_index_in, mixed_index-back}
 use Rattle.rows.specs.declared.Seated.{Seated}
 use Rattle.rows.specs.declared.Seated.TheVariants.{At, Nothing}
-use Rattle.trellis.specs.Trellis.{label_of}
+use Rattle.std.specs.Prelude.{Option, Some, None}
+use Rattle.trellis.specs.Trellis.{label_in}
+use Rattle.trellis.specs.Laws.Back.{label_some, label_absent}
 use Rattle.tetra.specs.Lattice.{trio, section, section_ranks, in_own_class, in_bound, HasWord}
 use Rattle.tetra.specs.Encode.{refused_with, accepted_with, parity_at, label_for, fields_by, fields_for, encode_of}
 use Rattle.tetra.specs.Why.{OfParity, InCode, has_word, mixed_parity_lem, no_codeword_lem, outside-bound, wrong_sum_lem}
@@ -73,8 +75,8 @@ not_both p q = let z : ◌≡◌ {A = ℕ} 0 1 = cc in omega arith
 -- ---- a point of 24 coordinates, and what is read of it: its coordinates t in trio order
 module _ (y : List ℤ) (size : length y ≡ 24) where
   module _ {t : List ℤ} (et : t ≡ trio y) where
-    pub label-read : {c x : ℕ} → c ≡ bits_of t → x ≡ label_of c → x ≡ label_for y
-    label-read ec ex = ex ∙ ap label_of (ec ∙ ap bits_of et)
+    pub label-read : {c : ℕ} {r : Option ℕ} → c ≡ bits_of t → r ≡ label_in c → r ≡ label_in (bits_of (trio y))
+    label-read ec er = er ∙ ap label_in (ec ∙ ap bits_of et)
 
     -- the seat of section s
     pub seat-read : (s : ℕ) → s < 3 → {m : List ℕ} {r : Seated} → m ≡ marks_of (take 8 (drop (8 * s) t)) → r ≡ class_index_of m
@@ -92,8 +94,10 @@ module _ (y : List ℤ) (size : length y ≡ 24) where
   pub parity-read : {p : ℕ} {b : Bool} → b ≡ uniform p y → not b ≡ false → OfParity y p
   parity-read {p} {b} eb q i h = uniform-at p y (true_is _ (sym eb ∙ not_not b q)) i (omega arith)
 
-  pub code_read : {x : ℕ} → x ≡ label_for y → x < 4096 → InCode y
-  code_read ex lx = label-code (bits_of (trio y)) (subst (λ (n : ℕ). n < 4096) ex lx)
+  pub code_read : {r : Option ℕ} {x : ℕ} → r ≡ label_in (bits_of (trio y)) → r ≡ Some x → InCode y × (x ≡ label_for y)
+  code_read {r} {x} e q =
+      let s = label_some (bits_of (trio y)) x (sym e ∙ q) in
+      (label-code (bits_of (trio y)) (omega (arith, s.0, s.1)), sym s.0)
 
   -- ---- each test that fails is the reason, where those before it pass
   pub no_parity : {p : ℕ} {b : Bool} → p ≡ parity_at y → b ≡ uniform p y → not b ≡ true → refused_with mixed_parity 0 ≡ encode_of y
@@ -104,8 +108,10 @@ module _ (y : List ℤ) (size : length y ≡ 24) where
       subst T (sym eb ∙ not_not b q) (at-uniform p y (λ k l. o k (omega arith) ∙ sym (o 0 (omega arith)) ∙ sym ep)))))
 
   module _ {p : ℕ} (o : OfParity y p) where
-    pub no_code : {x : ℕ} → x ≡ label_for y → 4096 ≤ x → refused_with no_codeword 0 ≡ encode_of y
-    no_code e l = sym (answered y size (no_codeword_lem p o (λ c. omega (arith, code-label (bits_of (trio y)) c))))
+    pub no_code : {r : Option ℕ} → r ≡ label_in (bits_of (trio y)) → r ≡ None → refused_with no_codeword 0 ≡ encode_of y
+    no_code e q =
+        let l = label_absent (bits_of (trio y)) (sym e ∙ q) in
+        sym (answered y size (no_codeword_lem p o (λ c. omega (arith, code-label (bits_of (trio y)) c))))
 
     module _ (c : InCode y) where
       pub no_first : {r : Seated} → r ≡ class_index_of (section_ranks y 0) → r ≡ Nothing → refused_with outside 1 ≡ encode_of y

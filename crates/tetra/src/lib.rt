@@ -260,10 +260,9 @@ pub fn encode(point: [i32; 24]) -> Encoded
         return refused(refusal::MIXED_PARITY, 0);
     }
     let t = to_trio(point);
-    let x = trellis::label_of(bits(t));
-    if 4096 <= x {
+    let Some(x) = trellis::label_of(bits(t)) else {
         return refused(refusal::NO_CODEWORD, 0);
-    }
+    };
     let rows::Seated::At {
         class: r,
         index: i1,

@@ -1,6 +1,6 @@
 -- A whole path and its codeword: the sections of a codeword lead back along its path, and bytes that lead back along a path are a codeword's.
 -- Assumes nothing.
-use Rattle.std.specs.Prelude.{◌≡◌, ℕ, ◌+◌, ◌*◌, ◌<◌}
+use Rattle.std.specs.Prelude.{◌≡◌, ℕ, ◌+◌, ◌*◌, ◌<◌, Some}
 use Rattle.std.proofs.Common.{◌∙◌, sym, ap₂, arith}
 use Rattle.std.proofs.Math.Path.{refl, ap}
 use Rattle.trellis.specs.Code.{codeword_of, columns, label, first, second, third}
@@ -8,9 +8,6 @@ use Rattle.trellis.specs.Trellis.{path, s8_of, b1_of, b2_of, b3_of, s16_of}
 use Rattle.trellis.specs.Trellis.{opening_of, passage_of, closing_of, opening_says, passage_says, closing_says}
 use Rattle.trellis.proofs.Path.{path-at, first-at, second_at, third_at}
 use Rattle.trellis.specs.Laws.Path.{next-lt}
-use Rattle.trellis.specs.declared.Opening.TheVariants.{From}
-use Rattle.trellis.specs.declared.Passage.TheVariants.{Along}
-use Rattle.trellis.specs.declared.Closing.TheVariants.{By}
 use Rattle.trellis.specs.Laws.Back.{opening_by, opening_iff, passage_by, passage_iff, closing_by, closing_iff, label-parts}
 
 pub path_word : (s8 b1 b2 b3 : ℕ) → s8 < 64 → b1 < 2 → b2 < 16 → b3 < 2 → codeword_of columns (label s8 b1 b2 b3) ≡ path s8 b1 b2 b3
@@ -20,8 +17,8 @@ path_word s8 b1 b2 b3 h1 h2 h3 h4 =
     path-at x ∙ ap₂ (λ (s b : ℕ). path s b (b2_of x) (b3_of x)) q.0 q.1 ∙ ap₂ (λ (b d : ℕ). path s8 b1 b d) q.2 q.3
 
 -- the sections of a codeword lead back along its path
-pub walk_back : (x : ℕ) → (opening_of (first (codeword_of columns x)) ≡ From (s8_of x) (b1_of x))
-    × (passage_of (s8_of x) (second (codeword_of columns x)) ≡ Along (b2_of x) (s16_of x)) × (closing_of (s16_of x) (third (codeword_of columns x)) ≡ By (b3_of x))
+pub walk_back : (x : ℕ) → (opening_of (first (codeword_of columns x)) ≡ Some (s8_of x, b1_of x))
+    × (passage_of (s8_of x) (second (codeword_of columns x)) ≡ Some (b2_of x, s16_of x)) × (closing_of (s16_of x) (third (codeword_of columns x)) ≡ Some (b3_of x))
 walk_back x =
     let w = codeword_of columns x in (
       opening_by _ _ ((opening_iff (first w) (s8_of x) (b1_of x)).1 (omega arith, omega arith, sym (first-at x))),
@@ -30,7 +27,7 @@ walk_back x =
     )
 
 -- and three bytes that lead back along a path are the sections of its codeword
-pub walk_word : (c1 c2 c3 s8 b1 b2 s16 b3 : ℕ) → opening_of c1 ≡ From s8 b1 → passage_of s8 c2 ≡ Along b2 s16 → closing_of s16 c3 ≡ By b3
+pub walk_word : (c1 c2 c3 s8 b1 b2 s16 b3 : ℕ) → opening_of c1 ≡ Some (s8, b1) → passage_of s8 c2 ≡ Some (b2, s16) → closing_of s16 c3 ≡ Some b3
     → codeword_of columns (label s8 b1 b2 b3) ≡ c1 + 256 * c2 + 65536 * c3
 walk_word c1 c2 c3 s8 b1 b2 s16 b3 e f g =
     let p = (opening_iff c1 s8 b1).0 (ap opening_says e) in

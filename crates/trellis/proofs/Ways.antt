@@ -1,5 +1,7 @@
 -- What the functions of the way back find, over plain numbers. Assumes nothing.
-use mathlib.Core.Path.{◌≡◌, ◌∙◌, sym, ap, ap₂}
+use Rattle.std.specs.Prelude.{Some, None}
+use Rattle.std.proofs.Common.{lt-ltb}
+use mathlib.Core.Path.{◌≡◌, refl, ◌∙◌, sym, ap, ap₂}
 use mathlib.Core.Bool.{Bool, ◌&&◌}
 use Prim.Native.Nat.{ℕ, zero, suc, ◌/◌, ◌<◌, ◌≤◌}
 use native.Mathlib.Nat.{mod-eq_of_lt}
@@ -8,15 +10,12 @@ use lib.Dec.{T, eqb, eqb→eq}
 use Rattle.laws.specs.Laws.Tests.{and_left, and_right, upto, below2}
 use Rattle.trellis.specs.Code.{codeword_of, columns}
 use Rattle.trellis.specs.Tables.{prefixes, middles}
-use Rattle.trellis.specs.Trellis.{prefix_of, middle_of, branch_of, suffix_of, s8_of, b1_of, opening_of, passage_of, closing_of, label_of}
+use Rattle.trellis.specs.Trellis.{prefix_of, middle_of, branch_of, suffix_of, s8_of, b1_of, opening_of, passage_of, closing_of, label_of, label_in}
 use Rattle.trellis.specs.Laws.Code.{back_columns, back_at, back-lt}
 use Rattle.trellis.specs.Laws.Back.{opening_by, opening_iff, opening-none}
 use Rattle.trellis.specs.Laws.Back.{passage_by, passage_iff, passage-none, closing_by, closing_iff, closing-none}
 use Rattle.trellis.specs.Laws.Back.{label_iff, label-none}
 use Rattle.trellis.specs.declared.Edge.{Edge}
-use Rattle.trellis.specs.declared.Opening.TheVariants.{From, NoState}
-use Rattle.trellis.specs.declared.Passage.TheVariants.{Along, NoBranch}
-use Rattle.trellis.specs.declared.Closing.TheVariants.{By, NoSuffix}
 
 -- ---- a prefix byte: the way back finds its state and its bit by the first byte alone
 found : ℕ → ℕ → Bool
@@ -34,12 +33,12 @@ found_at s b h k =
     let t = below2 64 2 found all_found s b h k in
     (eqb→eq _ _ (and_left (eqb (s8_of w) s) (eqb (b1_of w) b) t), eqb→eq _ _ (and_right (eqb (s8_of w) s) (eqb (b1_of w) b) t))
 
-pub open-found : (c s b r : ℕ) → r ≡ prefix_of s b → s < 64 → b < 2 → r ≡ c → From s b ≡ opening_of c
-open-found c s b r e h k q = sym (opening_by _ (From s b) ((opening_iff c s b).1 (h, k, sym e ∙ q)))
+pub open-found : (c s b r : ℕ) → r ≡ prefix_of s b → s < 64 → b < 2 → r ≡ c → Some (s, b) ≡ opening_of c
+open-found c s b r e h k q = sym (opening_by _ (Some (s, b)) ((opening_iff c s b).1 (h, k, sym e ∙ q)))
 
-pub open_none : (c x r : ℕ) → x ≡ codeword_of back_columns c → r ≡ prefix_of (s8_of x) (b1_of x) → (r ≡ c → ⊥) → NoState ≡ opening_of c
+pub open_none : (c x r : ℕ) → x ≡ codeword_of back_columns c → r ≡ prefix_of (s8_of x) (b1_of x) → (r ≡ c → ⊥) → None ≡ opening_of c
 open_none c x r ex e n =
-    sym (opening_by _ NoState
+    sym (opening_by _ None
     ((opening-none c).1 (λ s b h k q.
     let f = found_at s b h k in
     let w = ex ∙ ap (codeword_of back_columns) (sym q) in
@@ -57,29 +56,29 @@ high_at : (s b : ℕ) → s < 64 → b < 16 → middle_of s b / 16 ≡ b
 unfolding high
 high_at s b h k = eqb→eq (middle_of s b / 16) b (below2 64 16 high all_high s b h k)
 
-pub pass-outside : (s c : ℕ) → 64 ≤ s → NoBranch ≡ passage_of s c
-pass-outside s c h = sym (passage_by _ NoBranch ((passage-none s c).1 (λ b k l q. omega arith)))
+pub pass-outside : (s c : ℕ) → 64 ≤ s → None ≡ passage_of s c
+pass-outside s c h = sym (passage_by _ None ((passage-none s c).1 (λ b k l q. omega arith)))
 
-pub pass-found : (s c b : ℕ) (r : Edge) → r ≡ branch_of s b → s < 64 → b < 16 → r.byte ≡ c → Along b r.s16 ≡ passage_of s c
+pub pass-found : (s c b : ℕ) (r : Edge) → r ≡ branch_of s b → s < 64 → b < 16 → r.byte ≡ c → Some (b, r.s16) ≡ passage_of s c
 pass-found s c b r e h k q =
-    sym (passage_by _ (Along b r.s16)
+    sym (passage_by _ (Some (b, r.s16))
     ((passage_iff s c b r.s16).1 (h, k, sym (ap (λ (x : Edge). x.byte) e) ∙ q, sym (ap (λ (x : Edge). x.s16) e))))
 
-pub pass-none : (s c : ℕ) (r : Edge) → r ≡ branch_of s (c / 16) → s < 64 → (r.byte ≡ c → ⊥) → NoBranch ≡ passage_of s c
+pub pass-none : (s c : ℕ) (r : Edge) → r ≡ branch_of s (c / 16) → s < 64 → (r.byte ≡ c → ⊥) → None ≡ passage_of s c
 pass-none s c r e h n =
-    sym (passage_by _ NoBranch
+    sym (passage_by _ None
     ((passage-none s c).1 (λ b k l q.
     n (ap (λ (x : Edge). x.byte) e ∙ ap (middle_of s) (ap (λ (x : ℕ). x / 16) (sym q) ∙ high_at s b h l) ∙ q))))
 
 -- ---- a suffix byte: one of the two of the state
-pub close-outside : (s c : ℕ) → 64 ≤ s → NoSuffix ≡ closing_of s c
-close-outside s c h = sym (closing_by _ NoSuffix ((closing-none s c).1 (λ b k l q. omega arith)))
+pub close-outside : (s c : ℕ) → 64 ≤ s → None ≡ closing_of s c
+close-outside s c h = sym (closing_by _ None ((closing-none s c).1 (λ b k l q. omega arith)))
 
-pub close-found : (s c b r : ℕ) → r ≡ suffix_of s b → s < 64 → b < 2 → r ≡ c → By b ≡ closing_of s c
-close-found s c b r e h k q = sym (closing_by _ (By b) ((closing_iff s c b).1 (h, k, sym e ∙ q)))
+pub close-found : (s c b r : ℕ) → r ≡ suffix_of s b → s < 64 → b < 2 → r ≡ c → Some b ≡ closing_of s c
+close-found s c b r e h k q = sym (closing_by _ (Some b) ((closing_iff s c b).1 (h, k, sym e ∙ q)))
 
-pub close-none : (s c r t : ℕ) → r ≡ suffix_of s 0 → t ≡ suffix_of s 1 → (r ≡ c → ⊥) → (t ≡ c → ⊥) → NoSuffix ≡ closing_of s c
-close-none s c r t e f n m = sym (closing_by _ NoSuffix ((closing-none s c).1 go))
+pub close-none : (s c r t : ℕ) → r ≡ suffix_of s 0 → t ≡ suffix_of s 1 → (r ≡ c → ⊥) → (t ≡ c → ⊥) → None ≡ closing_of s c
+close-none s c r t e f n m = sym (closing_by _ None ((closing-none s c).1 go))
   where
     go : (b : ℕ) → s < 64 → b < 2 → suffix_of s b ≡ c → ⊥
     go zero h k q = n (e ∙ q)
@@ -87,10 +86,16 @@ close-none s c r t e f n m = sym (closing_by _ NoSuffix ((closing-none s c).1 go
     go (suc (suc b)) h k q = omega arith
 
 -- ---- a codeword: its label by the columns of the way back, if that label's codeword is the word
-pub label-found : (w x y : ℕ) → x ≡ codeword_of back_columns w → y ≡ codeword_of columns x → y ≡ w → x ≡ label_of w
-label-found w x y ex ey e = sym ((label_iff w x (omega (arith, back-lt w))).1 (sym ey ∙ e))
+pub label-found : (w x y : ℕ) → x ≡ codeword_of back_columns w → y ≡ codeword_of columns x → y ≡ w → Some x ≡ label_in w
+label-found w x y ex ey e =
+    let h : x < 4096 = omega (arith, back-lt w) in
+    let q = (label_iff w x h).1 (sym ey ∙ e) in
+    rw (q, lt-ltb x 4096 h) refl
 
-pub label_lost : (w x y : ℕ) → x ≡ codeword_of back_columns w → y ≡ codeword_of columns x → (y ≡ w → ⊥) → 4096 ≡ label_of w
-label_lost w x y ex ey n =
-    sym ((label-none w).1 (λ z h e.
-    n (ey ∙ ap (codeword_of columns) (ex ∙ ap (codeword_of back_columns) (sym e) ∙ back_at z ∙ mod-eq_of_lt h) ∙ e)))
+pub label_lost : (w x y : ℕ) → x ≡ codeword_of back_columns w → y ≡ codeword_of columns x → (y ≡ w → ⊥) → None ≡ label_in w
+label_lost w x y ex ey n = rw none refl
+  where
+    none : label_of w ≡ 4096
+    none =
+        (label-none w).1 (λ z h e.
+        n (ey ∙ ap (codeword_of columns) (ex ∙ ap (codeword_of back_columns) (sym e) ∙ back_at z ∙ mod-eq_of_lt h) ∙ e))

@@ -1,16 +1,10 @@
 -- The trellis: the states of a codeword at the cuts after its first and its second section, the bytes by which a path runs through them, and
 -- the way back from bytes to a path. Assumes nothing.
-use Rattle.std.specs.Prelude.{cond, List, [], ◌∷◌, ℕ, ◌+◌, ◌*◌, ◌/◌, ◌%◌, ltb, length, get_or, take, drop}
+use Rattle.std.specs.Prelude.{cond, List, [], ◌∷◌, ℕ, ◌+◌, ◌*◌, ◌/◌, ◌%◌, ltb, length, get_or, take, drop, Option, Some, None}
 use Rattle.laws.specs.Words.{tab, seek}
 use Rattle.trellis.specs.Code.{codewords}
 use Rattle.trellis.specs.Tables.{prefixes, middles, nexts, suffixes}
 use Rattle.trellis.specs.declared.Edge.{Edge}
-use Rattle.trellis.specs.declared.Opening.{Opening}
-use Rattle.trellis.specs.declared.Opening.TheVariants.{From, NoState}
-use Rattle.trellis.specs.declared.Passage.{Passage}
-use Rattle.trellis.specs.declared.Passage.TheVariants.{Along, NoBranch}
-use Rattle.trellis.specs.declared.Closing.{Closing}
-use Rattle.trellis.specs.declared.Closing.TheVariants.{By, NoSuffix}
 
 -- ---- the tables read
 -- row s of a table with n entries a row: no entries where the table has no row s
@@ -70,34 +64,38 @@ abbrev pub s16_of : ℕ → ℕ
 s16_of x = next_of (s8_of x) (b2_of x)
 
 -- ---- the way back. What an answer says: its numbers, and no numbers where there is none. Neither is a refusal.
-abbrev pub opening_says : Opening → List ℕ
-opening_says (From s8 b1) = s8 ∷ b1 ∷ []
-opening_says NoState = []
+abbrev pub opening_says : Option (ℕ × ℕ) → List ℕ
+opening_says (Some (s8, b1)) = s8 ∷ b1 ∷ []
+opening_says None = []
 
-abbrev pub passage_says : Passage → List ℕ
-passage_says (Along b2 s16) = b2 ∷ s16 ∷ []
-passage_says NoBranch = []
+abbrev pub passage_says : Option (ℕ × ℕ) → List ℕ
+passage_says (Some (b2, s16)) = b2 ∷ s16 ∷ []
+passage_says None = []
 
-abbrev pub closing_says : Closing → List ℕ
-closing_says (By b3) = b3 ∷ []
-closing_says NoSuffix = []
+abbrev pub closing_says : Option ℕ → List ℕ
+closing_says (Some b3) = b3 ∷ []
+closing_says None = []
 
 -- what f says of the first place at which c stands; `none` where it stands nowhere
 abbrev pub look_up : {A : Type 0} → (ℕ → A) → A → List ℕ → ℕ → A
 look_up f none xs c = cond (ltb (seek c xs) (length xs)) (f (seek c xs)) none
 
 -- the state at cut 8 and the bit of a prefix byte: there are two prefixes to a state
-unfoldable pub opening_of : ℕ → Opening
-opening_of c1 = look_up (λ (i : ℕ). From (i / 2) (i % 2)) NoState prefixes c1
+unfoldable pub opening_of : ℕ → Option (ℕ × ℕ)
+opening_of c1 = look_up (λ (i : ℕ). Some (i / 2, i % 2)) None prefixes c1
 
 -- the branch of a middle byte out of state s8, and the state at cut 16 that it leads to
-unfoldable pub passage_of : ℕ → ℕ → Passage
-passage_of s8 c2 = look_up (λ (b2 : ℕ). Along b2 (next_of s8 b2)) NoBranch (row 16 middles s8) c2
+unfoldable pub passage_of : ℕ → ℕ → Option (ℕ × ℕ)
+passage_of s8 c2 = look_up (λ (b2 : ℕ). Some (b2, next_of s8 b2)) None (row 16 middles s8) c2
 
 -- the bit of a suffix byte into state s16
-unfoldable pub closing_of : ℕ → ℕ → Closing
-closing_of s16 c3 = look_up By NoSuffix (row 2 suffixes s16) c3
+unfoldable pub closing_of : ℕ → ℕ → Option ℕ
+closing_of s16 c3 = look_up Some None (row 2 suffixes s16) c3
 
 -- the label of a codeword: its place among the codewords, 4096 where it is none
 unfoldable pub label_of : ℕ → ℕ
 label_of w = seek w codewords
+
+-- what is answered of a word: its label, and none where `label_of` has 4096
+abbrev pub label_in : ℕ → Option ℕ
+label_in w = cond (ltb (label_of w) 4096) (Some (label_of w)) None

@@ -1,16 +1,16 @@
--- From the last column down: the answer so far is the word of the columns from `j` on, at the bits of `x` from `j` on.
-use native.Mathlib.Omega.{arith}
+-- The column at hand comes to the word where its bit of the label is set.
+use Rattle.std.proofs.Common.{arith}
 use Rattle.trellis.proofs.Columns.{word_set, word_clear}
 use Rattle.trellis.proofs.combine.Goals as goal
+use Rattle.trellis.proofs.combine.Goals.{then-rest-eq1, else-rest-eq1}
 
-pub loop-j-preserved-then-x-j-eq1 : goal.loop-j-preserved-then-x-j-eq1
-loop-j-preserved-then-x-j-eq1 c =
-    let l = c.loop-j in
-    let a = c.args in
-    (omega arith, word_set a.cs.now a.x l.j l.acc (omega arith) (omega arith) l.invariant.1 c.if-x-j-eq1.true)
-
-pub loop-j-preserved : goal.loop-j-preserved
-loop-j-preserved c =
-    let l = c.loop-j in
-    let a = c.args in
-    (omega arith, word_clear a.cs.now a.x l.j l.acc (omega arith) (omega arith) l.invariant.1 c.if-x-j-eq1.false)
+pub loop-column-preserved : goal.loop-column-preserved
+loop-column-preserved c =
+    let l = c.loop-column in
+    let cs = c.args.columns.now in
+    let x = c.args.x in
+    let i = l.column-index in
+    elim c.if-rest-eq1.branch [
+      | then-rest-eq1 w ↦ rw w.word-is (word_set cs x i l.word l.rest (omega arith) l.invariant w.if-rest-eq1.true)
+      | else-rest-eq1 w ↦ rw w.word-is (word_clear cs x i l.word l.rest (omega arith) l.invariant w.if-rest-eq1.false)
+    ]

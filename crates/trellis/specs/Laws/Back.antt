@@ -1,49 +1,43 @@
 -- The way back: a prefix byte names its state and bit, a middle byte out of a state its branch, a suffix byte into a state its bit, a codeword
 -- its label; and each answers none exactly where there is none. Assumes nothing.
-use Rattle.std.specs.Prelude.{◌≡◌, ◌↔◌, ℕ, ◌+◌, ◌*◌, ◌/◌, ◌%◌, ◌<◌, ◌≤◌, T, eqb, get_or, drop}
-use Rattle.std.proofs.Common.{◌∙◌, sym, ap₂, arith, length-take, length-drop}
+use Rattle.std.specs.Prelude.{◌≡◌, ◌↔◌, ℕ, ◌+◌, ◌*◌, ◌/◌, ◌%◌, ◌<◌, ◌≤◌, T, Bool, true, false, cond, eqb, ltb, get_or, drop, Option, Some, None, unwrap_or}
+use Rattle.std.proofs.Common.{◌∙◌, sym, ap₂, arith, ltb-true, ltb-false, length-take, length-drop}
 use Rattle.std.proofs.Math.Path.{refl, ap}
 use mathlib.Core.List.{List, [], ◌∷◌}
 use Rattle.std.proofs.Math.Nat.{min-le_left, min-le_right}
 use Rattle.std.proofs.lemmas.Nat.{mod-pow-add}
 use Rattle.std.proofs.Math.ListN.{length}
 use Rattle.laws.specs.Words.{seek}
-use Rattle.laws.specs.Laws.Lists.{tab-length, tab_at, seek-holds}
+use Rattle.laws.specs.Laws.Lists.{tab-length, tab_at, seek-le, seek-holds}
 use Rattle.laws.specs.Laws.Tables.{every}
 use Rattle.trellis.specs.Code.{codeword_of, columns, codewords, label}
 use Rattle.trellis.specs.Tables.{prefixes, middles, suffixes}
-use Rattle.trellis.specs.Trellis.{row, prefix_of, middle_of, next_of, suffix_of, s8_of, b1_of, b2_of, b3_of, label_of}
+use Rattle.trellis.specs.Trellis.{row, prefix_of, middle_of, next_of, suffix_of, s8_of, b1_of, b2_of, b3_of, label_of, label_in}
 use Rattle.trellis.specs.Trellis.{opening_of, passage_of, closing_of, opening_says, passage_says, closing_says}
 use Rattle.trellis.specs.Laws.Path.{row-length, prefixes-length, middles-length, suffixes-length}
 use Rattle.trellis.specs.Laws.Path.{middle_up, suffix-pair}
 use Rattle.trellis.specs.Laws.Rows.{prefix-read}
 use Rattle.trellis.specs.Laws.Code.{distinct}
 use Rattle.trellis.specs.Laws.Look.{seek_is, seek-none, Distinct, found_distinct, up_distinct, says_iff, says_none}
-use Rattle.trellis.specs.declared.Opening.{Opening}
-use Rattle.trellis.specs.declared.Opening.TheVariants.{From, NoState}
-use Rattle.trellis.specs.declared.Passage.{Passage}
-use Rattle.trellis.specs.declared.Passage.TheVariants.{Along, NoBranch}
-use Rattle.trellis.specs.declared.Closing.{Closing}
-use Rattle.trellis.specs.declared.Closing.TheVariants.{By, NoSuffix}
 
 -- ---- an answer is known from what it says
-pub opening_by : (o p : Opening) → opening_says o ≡ opening_says p → o ≡ p
-opening_by (From s b) (From t d) e = cc
-opening_by (From s b) NoState e = cc
-opening_by NoState (From t d) e = cc
-opening_by NoState NoState e = refl
+pub opening_by : (o p : Option (ℕ × ℕ)) → opening_says o ≡ opening_says p → o ≡ p
+opening_by (Some (s, b)) (Some (t, d)) e = cc
+opening_by (Some (s, b)) None e = cc
+opening_by None (Some (t, d)) e = cc
+opening_by None None e = refl
 
-pub passage_by : (o p : Passage) → passage_says o ≡ passage_says p → o ≡ p
-passage_by (Along b s) (Along d t) e = cc
-passage_by (Along b s) NoBranch e = cc
-passage_by NoBranch (Along d t) e = cc
-passage_by NoBranch NoBranch e = refl
+pub passage_by : (o p : Option (ℕ × ℕ)) → passage_says o ≡ passage_says p → o ≡ p
+passage_by (Some (b, s)) (Some (d, t)) e = cc
+passage_by (Some (b, s)) None e = cc
+passage_by None (Some (d, t)) e = cc
+passage_by None None e = refl
 
-pub closing_by : (o p : Closing) → closing_says o ≡ closing_says p → o ≡ p
-closing_by (By b) (By d) e = cc
-closing_by (By b) NoSuffix e = cc
-closing_by NoSuffix (By d) e = cc
-closing_by NoSuffix NoSuffix e = refl
+pub closing_by : (o p : Option ℕ) → closing_says o ≡ closing_says p → o ≡ p
+closing_by (Some b) (Some d) e = cc
+closing_by (Some b) None e = cc
+closing_by None (Some d) e = cc
+closing_by None None e = refl
 
 -- ---- a prefix byte
 prefixes-found : T (every (λ (i x : ℕ). eqb (seek x prefixes) i) 0 prefixes)
@@ -57,8 +51,8 @@ prefixes_distinct = found_distinct prefixes prefixes-found
 some : (x : ℕ) (xs : List ℕ) → x ∷ xs ≡ [] → ⊥
 some x xs e = let z : ◌≡◌ {A = ℕ} 0 1 = cc in omega arith
 
-abbrev open_at : ℕ → Opening
-open_at i = From (i / 2) (i % 2)
+abbrev open_at : ℕ → Option (ℕ × ℕ)
+open_at i = Some (i / 2, i % 2)
 
 loud_open : (i : ℕ) → opening_says (open_at i) ≡ [] → ⊥
 loud_open i = some (i / 2) ((i % 2) ∷ [])
@@ -83,12 +77,12 @@ opening_iff c s b = (
   where
     found : (opening_says (opening_of c) ≡ s ∷ b ∷ [])
         ↔ ((i : ℕ) × (i < length prefixes) × (get_or prefixes i 0 ≡ c) × (opening_says (open_at i) ≡ s ∷ b ∷ []))
-    found = says_iff Opening opening_says open_at NoState refl loud_open prefixes c prefixes_distinct (s ∷ b ∷ []) (some s (b ∷ []))
+    found = says_iff (Option (ℕ × ℕ)) opening_says open_at None refl loud_open prefixes c prefixes_distinct (s ∷ b ∷ []) (some s (b ∷ []))
 
 pub opening-none : (c1 : ℕ) → (opening_says (opening_of c1) ≡ []) ↔ ((s8 b1 : ℕ) → s8 < 64 → b1 < 2 → prefix_of s8 b1 ≡ c1 → ⊥)
 unfolding opening_of
 opening-none c =
-    let r = says_none Opening opening_says open_at NoState refl loud_open prefixes c in (
+    let r = says_none (Option (ℕ × ℕ)) opening_says open_at None refl loud_open prefixes c in (
       λ e s b h k q. r.0 e (2 * s + b) (omega (arith, prefixes-length)) (sym (prefix-read s b k) ∙ q),
       λ n. r.1 (λ i h e. n (i / 2) (i % 2) (omega (arith, prefixes-length)) (omega arith) (place_at i ∙ e)),
     )
@@ -119,8 +113,8 @@ middle_distinct s h a b ha hb e =
     middles_distinct s a b (in_row 16 middles s a ha (omega (arith, middles-length))) (in_row 16 middles s b hb (omega (arith, middles-length))) e
 
 module _ (s8 c2 : ℕ) where
-  abbrev along_at : ℕ → Passage
-  along_at b2 = Along b2 (next_of s8 b2)
+  abbrev along_at : ℕ → Option (ℕ × ℕ)
+  along_at b2 = Some (b2, next_of s8 b2)
 
   loud_along : (b2 : ℕ) → passage_says (along_at b2) ≡ [] → ⊥
   loud_along b2 = some b2 (next_of s8 b2 ∷ [])
@@ -143,12 +137,12 @@ module _ (s8 c2 : ℕ) where
       found : (passage_says (passage_of s8 c2) ≡ b ∷ t ∷ [])
           ↔ ((i : ℕ) × (i < length (row 16 middles s8)) × (get_or (row 16 middles s8) i 0 ≡ c2) × (passage_says (along_at i) ≡ b ∷ t ∷ []))
       found =
-          says_iff Passage passage_says along_at NoBranch refl loud_along (row 16 middles s8) c2 (middles_distinct s8) (b ∷ t ∷ []) (some b (t ∷ []))
+          says_iff (Option (ℕ × ℕ)) passage_says along_at None refl loud_along (row 16 middles s8) c2 (middles_distinct s8) (b ∷ t ∷ []) (some b (t ∷ []))
 
   pub passage-none : (passage_says (passage_of s8 c2) ≡ []) ↔ ((b2 : ℕ) → s8 < 64 → b2 < 16 → middle_of s8 b2 ≡ c2 → ⊥)
   unfolding passage_of middle_of
   passage-none =
-      let r = says_none Passage passage_says along_at NoBranch refl loud_along (row 16 middles s8) c2 in (
+      let r = says_none (Option (ℕ × ℕ)) passage_says along_at None refl loud_along (row 16 middles s8) c2 in (
         λ e b h k q. r.0 e b (in_row 16 middles s8 b k (omega (arith, middles-length))) q,
         λ n. r.1 (λ i h e. let l = row_in 16 middles s8 i h in n i (omega (arith, l.1, middles-length)) l.0 e),
       )
@@ -165,7 +159,7 @@ suffixes_distinct s =
     rw (u, v) (suffix-pair s (omega (arith, q.1, suffixes-length))).0)
 
 module _ (s16 c3 : ℕ) where
-  loud_by : (b3 : ℕ) → closing_says (By b3) ≡ [] → ⊥
+  loud_by : (b3 : ℕ) → closing_says (Some b3) ≡ [] → ⊥
   loud_by b3 = some b3 []
 
   pub closing_iff : (b3 : ℕ) → (closing_says (closing_of s16 c3) ≡ b3 ∷ []) ↔ ((s16 < 64) × (b3 < 2) × (suffix_of s16 b3 ≡ c3))
@@ -182,13 +176,13 @@ module _ (s16 c3 : ℕ) where
   )
     where
       found : (closing_says (closing_of s16 c3) ≡ b ∷ [])
-          ↔ ((i : ℕ) × (i < length (row 2 suffixes s16)) × (get_or (row 2 suffixes s16) i 0 ≡ c3) × (closing_says (By i) ≡ b ∷ []))
-      found = says_iff Closing closing_says By NoSuffix refl loud_by (row 2 suffixes s16) c3 (suffixes_distinct s16) (b ∷ []) (some b [])
+          ↔ ((i : ℕ) × (i < length (row 2 suffixes s16)) × (get_or (row 2 suffixes s16) i 0 ≡ c3) × (closing_says (Some i) ≡ b ∷ []))
+      found = says_iff (Option ℕ) closing_says Some None refl loud_by (row 2 suffixes s16) c3 (suffixes_distinct s16) (b ∷ []) (some b [])
 
   pub closing-none : (closing_says (closing_of s16 c3) ≡ []) ↔ ((b3 : ℕ) → s16 < 64 → b3 < 2 → suffix_of s16 b3 ≡ c3 → ⊥)
   unfolding closing_of suffix_of
   closing-none =
-      let r = says_none Closing closing_says By NoSuffix refl loud_by (row 2 suffixes s16) c3 in (
+      let r = says_none (Option ℕ) closing_says Some None refl loud_by (row 2 suffixes s16) c3 in (
         λ e b h k q. r.0 e b (in_row 2 suffixes s16 b k (omega (arith, suffixes-length))) q,
         λ n. r.1 (λ i h e. let l = row_in 2 suffixes s16 i h in n i (omega (arith, l.1, suffixes-length)) l.0 e),
       )
@@ -229,6 +223,35 @@ label-none w = (
   λ n. seek-none w codewords (λ i h q. let hi : i < 4096 = omega (arith, codewords-length) in n i hi (sym (codewords-at i hi) ∙ q))
       ∙ codewords-length,
 )
+
+-- the answer and the number say the same: 4096 for none
+pub label_some : (w x : ℕ) → label_in w ≡ Some x → (label_of w ≡ x) × (x < 4096)
+label_some w x e = go (ltb (label_of w) 4096) refl e
+  where
+    go : (b : Bool) → ltb (label_of w) 4096 ≡ b → cond b (Some (label_of w)) None ≡ Some x → (label_of w ≡ x) × (x < 4096)
+    go true q r = let p : label_of w ≡ x = cc in (p, omega (arith, ltb-true (label_of w) 4096 q))
+    go false q r = absurd (nothing_here r)
+      where
+        nothing_here : ◌≡◌ {A = Option ℕ} None (Some x) → ⊥
+        nothing_here z = let u : ◌≡◌ {A = ℕ} 0 1 = cc in omega arith
+
+pub label_absent : (w : ℕ) → label_in w ≡ None → 4096 ≤ label_of w
+label_absent w e = go (ltb (label_of w) 4096) refl e
+  where
+    go : (b : Bool) → ltb (label_of w) 4096 ≡ b → cond b (Some (label_of w)) None ≡ None → 4096 ≤ label_of w
+    go true q r = let u : ◌≡◌ {A = ℕ} 0 1 = cc in omega arith
+    go false q r = ltb-false (label_of w) 4096 q
+
+label_at-most : (w : ℕ) → label_of w ≤ 4096
+unfolding label_of
+label_at-most w = omega (arith, seek-le w codewords, codewords-length)
+
+pub label_or : (w : ℕ) → unwrap_or (label_in w) 4096 ≡ label_of w
+label_or w = go (ltb (label_of w) 4096) refl
+  where
+    go : (b : Bool) → ltb (label_of w) 4096 ≡ b → unwrap_or (cond b (Some (label_of w)) None) 4096 ≡ label_of w
+    go true q = refl
+    go false q = omega (arith, label_at-most w, ltb-false (label_of w) 4096 q)
 
 -- ---- the parts of a label (the codeword of a whole path: proofs/Walk)
 pub label-parts : (s8 b1 b2 b3 : ℕ) → s8 < 64 → b1 < 2 → b2 < 16 → b3 < 2

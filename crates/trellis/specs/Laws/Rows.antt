@@ -1,15 +1,16 @@
 -- The tables read at one index. The branches out of every state by those out of state 0: codewords add up, and so do their middle bytes, by one
 -- computed test (and their states: proofs/Rows). And the pairs of a table of two entries a state. Assumes nothing.
-use Rattle.std.specs.Prelude.{◌≡◌, refl, Bool, List, [], ◌∷◌, ℕ, ◌+◌, ◌*◌, ◌/◌, ◌%◌, ◌<◌, ◌≤◌, T, eqb, length, get_or, take, drop}
-use Rattle.std.proofs.Common.{◌∙◌, sym, ap, ap₂, mul_comm, arith, eqb→eq, length-drop, get_or-drop}
+use Rattle.std.specs.Prelude.{◌≡◌, refl, Bool, true, false, ltb, List, [], ◌∷◌, ℕ, ◌+◌, ◌*◌, ◌/◌, ◌%◌, ◌<◌, ◌≤◌, T, eqb, length, get_or, take, drop}
+use Rattle.std.proofs.Common.{◌∙◌, sym, ap, ap₂, mul_comm, arith, eqb→eq, length-drop, get_or-drop, ltb-true, ltb-false}
+use lib.ListN.{get_or-eq_default}
 use Rattle.std.specs.Int.Bits.{bit_xor}
 use Rattle.laws.specs.Laws.Tests.{upto, below}
 use Rattle.laws.specs.Laws.Tables.{every, at}
 use Rattle.laws.specs.Words.{tab}
-use Rattle.laws.specs.Laws.Lists.{tab_at, tab-eq}
+use Rattle.laws.specs.Laws.Lists.{tab-length, tab_at, tab-eq}
 use Rattle.trellis.specs.Tables.{prefixes, middles, nexts, suffixes}
 use Rattle.trellis.specs.Trellis.{row, pairs_of, prefix_of, middle_of, next_of, suffix_of, middle_sets}
-use Rattle.trellis.specs.Laws.Path.{row_at, row-length, middles-length}
+use Rattle.trellis.specs.Laws.Path.{row_at, row_beyond, row-length, middles-length}
 
 -- ---- the tables read at one index
 pub prefix-read : (s b : ℕ) → b < 2 → prefix_of s b ≡ get_or prefixes (2 * s + b) 0
@@ -68,6 +69,19 @@ middle_sets_lem =
 pub pair_at_lem : (t : List ℕ) (s b : ℕ) → s < 64 → b < 2 → get_or (get_or (pairs_of t) s []) b 0 ≡ get_or t (2 * s + b) 0
 unfolding pairs_of
 pair_at_lem t s b h k = ap (λ (l : List ℕ). get_or l b 0) (tab_at (List ℕ) [] (row 2 t) 64 s h) ∙ row_at 2 t s b k
+
+-- and so is what is read of a state or a bit that there is not: 0
+pub pair_read : (t : List ℕ) (s b : ℕ) → length t ≡ 128 → get_or (get_or (pairs_of t) s []) b 0 ≡ get_or (row 2 t s) b 0
+unfolding pairs_of
+pair_read t s b e = go (ltb s 64) refl
+  where
+    go : (q : Bool) → ltb s 64 ≡ q → get_or (get_or (tab (row 2 t) 64) s []) b 0 ≡ get_or (row 2 t s) b 0
+    go true q = ap (λ (l : List ℕ). get_or l b 0) (tab_at (List ℕ) [] (row 2 t) 64 s (ltb-true s 64 q))
+    go false q =
+        let h : 64 ≤ s = ltb-false s 64 q in
+        ap (λ (l : List ℕ). get_or l b 0)
+        (get_or-eq_default (tab (row 2 t) 64) [] (omega (arith, tab-length (List ℕ) (row 2 t) 64)))
+        ∙ sym (row_beyond 2 t s b (omega arith))
 
 -- and a pair is its two entries
 two-first : (l : List ℕ) → 2 ≤ length l → get_or l 0 0 ∷ get_or l 1 0 ∷ [] ≡ take 2 l
