@@ -8,8 +8,7 @@ use Rattle.rank.specs.Section.{uniform}
 use Rattle.tetra.specs.Tetra.{point_of}
 use Rattle.tetra.specs.Encode.{refused_with, encode_of}
 use Rattle.tetra.specs.declared.Encoded.{Encoded}
-use Rattle.page.specs.Answer.{Reading, words_in, read_of, cells_of}
-use Rattle.page.specs.declared.PageRead.{PageRead}
+use Rattle.page.specs.Answer.{PageRead, Reading, words_in, read_of, cells_of}
 use Rattle.even.specs.declared.Decoded.{Decoded}
 
 -- ---- a word: its number is 13 where its p is 1

@@ -5,13 +5,14 @@
 #![tactic(auto)]
 
 ghost use Rattle.std.specs.Prelude.{◌≡◌, ◌≤◌, length, take};
+ghost use Rattle.page.specs.Answer.{read_by};
 ghost use Rattle.page.specs.Reader.{reading_of};
 ghost use Rattle.search.specs.Parity.{even_parities};
 ghost use Rattle.encoder.specs.Encode.{encode_at_over, encode_over, encode_samples_over};
 ghost use Rattle.even.specs.Even.{word_number, even_decoded, even_encoded, any_odd, even_read, even_cells};
 
 use encoder::Code;
-use page::PageRead;
+use refusal::Refusal;
 use tetra::Encoded;
 
 // What `decode` answers: number 0 and the point of the word; or number 13 and 24 zeros.
@@ -103,19 +104,15 @@ fn any_odd(words: [u64; 64], count: usize) -> bool
     false
 }
 
-// Reads a page into the buffer: 24 counts per block, from its start on. Refused with 9 where the text is no page, then with 13 where a word is
+// Reads a page into the buffer, 24 counts per block, from its start on, and answers how many blocks it wrote. Refused with 9 where the text is no page, then with 13 where a word is
 // odd, then with 8 where the buffer has no room. The buffer is written only once all words are known to be even.
-pub fn read_page(text: &[u8], out: &mut [i32]) -> PageRead
-    ensures value { result ≡ even_read (reading_of text.now) (length out.old) }
+pub fn read_page(text: &[u8], out: &mut [i32]) -> Result<usize, Refusal>
+    ensures value { read_by result ≡ even_read (reading_of text.now) (length out.old) }
     ensures out_after { out.new ≡ even_cells (reading_of text.now) out.old }
 {
-    let page = page::parse(text);
-    let words = page.words;
-    if any_odd(words, page.count) {
-        return PageRead {
-            number: refusal::ALL_ODD,
-            count: 0,
-        };
+    let page = page::parse(text)?;
+    if any_odd(page.words, page.count) {
+        return Err(Refusal::AllOdd);
     }
     page::read(text, out)
 }

@@ -8,12 +8,10 @@ use lib.IntN.{ℤ}
 use lib.ListN.{length, replicate, length-replicate}
 use lib.Seq.{sets}
 use Rattle.text.specs.Laws.Placed.{into_zeros, drop_zeros}
-use Rattle.trace.specs.declared.Traced.{Traced}
-use Rattle.trace.specs.Answer.{traced_of}
+use Rattle.trace.specs.Answer.{Traced, traced_of}
 use Rattle.trace.specs.Reader.{trace_in}
 use Rattle.trace.specs.Laws.Answer.{refused-number}
-use Rattle.writer.specs.declared.Written.{Written}
-use Rattle.writer.specs.Writer.{text_of, written_of, text_after}
+use Rattle.writer.specs.Writer.{Written, text_of, written_of, text_after}
 use Rattle.writer.specs.WriterRule.{refusal_writes_nothing, written-longest}
 use Rattle.writer.specs.Laws.Answers.{when_0}
 use Rattle.made.specs.Made.{refused_lines, page_or_refusal, made, in_array}

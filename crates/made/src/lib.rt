@@ -3,11 +3,13 @@
 
 ghost use Rattle.std.specs.Prelude.{◌≡◌, ◌≤◌, length};
 ghost use Rattle.std.proofs.lemmas.List.Edits.{sets};
+ghost use Rattle.refusal.specs.Refusal.{number_of};
 ghost use Rattle.trace.specs.Reader.{trace_in};
 ghost use Rattle.made.specs.Made.{names_block, refused_lines, made, in_array};
 
-use refusal::{TOO_FAR, TOO_LARGE};
+use refusal::Refusal;
 use text::put_line;
+use writer::Unwritten;
 
 // A text of at most 1,189 bytes, as many as the longest page has: how many there are, and the bytes, with
 // zeros behind them.
@@ -18,24 +20,21 @@ pub struct Made {
 }
 
 // Whether a refusal is about a block.
-fn names_block(number: u32) -> bool
-    ensures { result ≡ names_block number }
+fn names_block(refusal: Refusal) -> bool
+    ensures { result ≡ names_block (number_of refusal) }
 {
-    if number == TOO_LARGE {
-        return true;
-    }
-    number == TOO_FAR
+    matches!(refusal, Refusal::TooLarge | Refusal::TooFar)
 }
 
 // The lines of a refusal, from the start on: its number, and for 2 and 4 the block that has it.
-fn put_refused(out: &mut [u8], number: u32, block: usize) -> usize
+fn put_refused(out: &mut [u8], why: Unwritten) -> usize
     requires { 46 ≤ length out.old }
-    ensures { (result ≡ length (refused_lines number block)) × (result ≤ 46) ×
-        (out.new ≡ sets out.old 0 (refused_lines number block)) }
+    ensures { (result ≡ length (refused_lines (number_of why.refusal) why.block)) × (result ≤ 46) ×
+        (out.new ≡ sets out.old 0 (refused_lines (number_of why.refusal) why.block)) }
 {
-    let at = put_line(out, 0, b"refused=", number as u64);
-    if names_block(number) {
-        return put_line(out, at, b"block=", block as u64);
+    let at = put_line(out, 0, b"refused=", why.refusal.number() as u64);
+    if names_block(why.refusal) {
+        return put_line(out, at, b"block=", why.block as u64);
     }
     at
 }
@@ -44,22 +43,20 @@ fn put_refused(out: &mut [u8], number: u32, block: usize) -> usize
 pub fn mkpage(text: &[u8]) -> Made
     ensures { (result ≡ in_array (made (trace_in text.now))) × (result.length ≤ 1189) }
 {
-    let t = trace::parse(text);
     let mut bytes = [0u8; 1189];
-    let number = t.number;
-    if number != 0 {
-        let length = put_refused(&mut bytes, number, 0);
-        return Made { length, bytes };
-    }
-    let samples = t.samples;
-    let n = 24 * t.count;
-    let w = writer::write(t.num, t.count, &samples[..n], &mut bytes);
-    if w.number != 0 {
-        let length = put_refused(&mut bytes, w.number, w.block);
-        return Made { length, bytes };
-    }
-    Made {
-        length: w.length,
-        bytes,
-    }
+    let trace = match trace::parse(text) {
+        Ok(trace) => trace,
+        Err(refusal) => {
+            let length = put_refused(&mut bytes, Unwritten { refusal, block: 0 });
+            return Made { length, bytes };
+        }
+    };
+    let length = match writer::write(trace.num, trace.count, trace.samples(), &mut bytes) {
+        Ok(length) => length,
+        Err(why) => {
+            let length = put_refused(&mut bytes, why);
+            return Made { length, bytes };
+        }
+    };
+    Made { length, bytes }
 }

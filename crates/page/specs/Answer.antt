@@ -1,8 +1,8 @@
 -- What the calls answer, once it is known whether the text is a page. Assumes nothing.
-use Rattle.std.specs.Prelude.{cond, List, [], ◌++◌, ℕ, ◌*◌, ◌-◌, ltb, eqb, ℤ, length, drop, replicate}
-use Rattle.refusal.specs.Refusal.{no_room, no_page}
-use Rattle.page.specs.declared.Parsed.{Parsed}
-use Rattle.page.specs.declared.PageRead.{PageRead}
+use Rattle.std.specs.Prelude.{cond, List, [], ◌++◌, ℕ, ◌*◌, ◌-◌, ltb, eqb, ℤ, length, drop, replicate, Result, Ok, Err}
+use Rattle.refusal.specs.declared.Refusal.{Refusal}
+use Rattle.refusal.specs.Refusal.{no_room, no_page, number_of}
+use Rattle.page.specs.declared.content.Page.{Page}
 use Rattle.page.specs.Counts.{page_counts}
 
 -- what a text is: the page of num and the words, or no page
@@ -28,6 +28,25 @@ words_in malformed = []
 unfoldable pub counts_in : Reading → List ℤ
 counts_in (page num words) = page_counts num words
 counts_in malformed = []
+
+-- ---- what the calls answer in document 01's terms: number 0 and what is answered, or the number of a refusal and zeros
+pub record Parsed : Type 0 where
+  pub number : ℕ
+  pub num : ℕ
+  pub count : ℕ
+  pub words : List ℕ
+
+abbrev pub parsed_by : Result Page Refusal → Parsed
+parsed_by (Ok p) = record { number = 0; num = p.num; count = p.count; words = p.words }
+parsed_by (Err r) = record { number = number_of r; num = 0; count = 0; words = replicate 64 0 }
+
+pub record PageRead : Type 0 where
+  pub number : ℕ
+  pub count : ℕ
+
+abbrev pub read_by : Result ℕ Refusal → PageRead
+read_by (Ok count) = record { number = 0; count = count }
+read_by (Err r) = record { number = number_of r; count = 0 }
 
 -- ---- `parse`: number 0, num, the count and the words, with zeros behind them up to 64; or 9 and zeros
 abbrev pub refused_by : ℕ → Parsed

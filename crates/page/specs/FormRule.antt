@@ -5,11 +5,9 @@ use Rattle.std.proofs.Common.{ap, sym, ◌∙◌, arith}
 use borrow.Author.Tests.{lt-ltb, le-ltb, ltb-false}
 use Rattle.std.proofs.lemmas.List.{length-map}
 use Rattle.std.proofs.Math.Seq.{take-append_seam}
-use Rattle.page.specs.declared.Parsed.{Parsed}
-use Rattle.page.specs.declared.Formed.{Formed}
 use Rattle.page.specs.Page.{Fit, page_text}
-use Rattle.page.specs.Answer.{page, parsed_of}
-use Rattle.page.specs.Form.{is_num, form_text, form_number, formed_of, form_in}
+use Rattle.page.specs.Answer.{Parsed, page, parsed_of}
+use Rattle.page.specs.Form.{Formed, is_num, form_text, form_number, formed_of, form_in}
 use Rattle.page.specs.Reader.{reading_of}
 use Rattle.page.specs.PageRule.{page_of_lem, accepted, only_pages, text-longest}
 use Rattle.page.specs.Laws.Answer.{some-page}

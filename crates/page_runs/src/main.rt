@@ -5,6 +5,7 @@
 ghost use Rattle.std.specs.Prelude.{◌≤◌, length};
 ghost use Rattle.std.specs.Io.{ReadsAtMost};
 
+use refusal::Refusal;
 use std::io;
 use std::io::Read;
 
@@ -23,14 +24,13 @@ fn end_of(texts: &[u8], at: usize) -> usize
     i
 }
 
-fn print_number(rt: &impl Print, key: &str, n: u64) -> io::Result<()> {
-    print!(rt; "{key}{n}")
-}
-
-fn print_read(rt: &impl Print, key: &str, read: page::PageRead) -> io::Result<()> {
-    print_number(rt, key, read.number as u64)?;
-    print_number(rt, " count=", read.count as u64)?;
-    rt.print("\n")
+// The number of an answer, and its count, which is 0 on a refusal.
+fn print_read(rt: &impl Print, key: &str, read: Result<usize, Refusal>) -> io::Result<()> {
+    let (number, count) = match read {
+        Ok(count) => (0, count),
+        Err(refusal) => (refusal.number(), 0),
+    };
+    println!(rt; "{key}{number} count={count}")
 }
 
 fn print(rt: &impl Print, printed: shown::Printed) -> io::Result<()>

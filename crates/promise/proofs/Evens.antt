@@ -21,7 +21,7 @@ use Rattle.demands.specs.Promised.{Even, Coded}
 use Rattle.demands.proofs.Codes.{even_at_scale_lem, even-samples}
 use Rattle.demands.specs.Demand3.{nearest-even_at_scale}
 use Rattle.demands.specs.Agrees.{even_agrees}
-use Rattle.page.specs.declared.PageRead.{PageRead}
+use Rattle.page.specs.Answer.{PageRead}
 use Rattle.page.specs.Reader.{reading_of}
 use Rattle.page.specs.PageRule.{on_page}
 use Rattle.even.specs.declared.Decoded.{Decoded}

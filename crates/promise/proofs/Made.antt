@@ -5,13 +5,11 @@ use Prim.Native.Nat.{ℕ, ◌%◌, ◌^◌}
 use borrow.Author.Tests.{eq-eqb, ne_eqb}
 use lib.IntN.{ℤ}
 use lib.ListN.{length, take, drop}
-use Rattle.page.specs.declared.Formed.{Formed}
 use Rattle.page.specs.Page.{Page}
-use Rattle.page.specs.Form.{formed_of, form_in}
+use Rattle.page.specs.Form.{Formed, formed_of, form_in}
 use Rattle.page.specs.PageRule.{only_pages}
 use Rattle.page.specs.FormRule as form
-use Rattle.writer.specs.declared.Written.{Written}
-use Rattle.writer.specs.Writer.{scale_of, words_for, text_of, written_of, text_after, Gives}
+use Rattle.writer.specs.Writer.{Written, scale_of, words_for, text_of, written_of, text_after, Gives}
 use Rattle.writer.specs.WriterRule as writer
 use Rattle.text.specs.Text.{refused_text}
 use Rattle.trace.specs.Reader.{trace_in}

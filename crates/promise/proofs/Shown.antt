@@ -32,10 +32,8 @@ use Rattle.encoder.specs.Numbers.{at-number, at-refused, number_is, is_refused}
 use Rattle.demands.specs.Promised.{Coded}
 use Rattle.demands.proofs.Codes.{at_scale_lem, samples}
 use Rattle.demands.specs.Demand3.{nearest-at_scale}
-use Rattle.page.specs.declared.Parsed.{Parsed}
-use Rattle.page.specs.declared.PageRead.{PageRead}
 use Rattle.shown.specs.declared.Printed.{Printed}
-use Rattle.page.specs.Answer.{Reading, page, malformed, number_in, words_in, counts_in, parsed_of, read_of, cells_of}
+use Rattle.page.specs.Answer.{Parsed, PageRead, Reading, page, malformed, number_in, words_in, counts_in, parsed_of, read_of, cells_of}
 use Rattle.shown.specs.Shown.{printed, in_array}
 use Rattle.page.specs.Reader.{reading_of}
 use Rattle.page.specs.Page.{Page}

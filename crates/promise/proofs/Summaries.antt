@@ -10,9 +10,8 @@ use Rattle.laws.specs.Laws.Order.{le-or-lt}
 use Rattle.tetra.specs.Tetra.{point_of}
 use Rattle.page.specs.Page.{page_text}
 use Rattle.page.specs.Reader.{reading_of}
-use Rattle.summary.specs.declared.Summed.{Summed}
 use Rattle.summary.specs.Summary.{points, odds, cells_for}
-use Rattle.summary.specs.Answer.{summarised, summarised_rows, checked, added, added_rows, longer}
+use Rattle.summary.specs.Answer.{Summed, summarised, summarised_rows, checked, added, added_rows, longer}
 use Rattle.summary.specs.SummaryRule.{Agrees, Kept, RowIs, agrees-or_not, check_iff, block_row_is, page_row_is, page_row-at, block_row-at}
 use Rattle.summary.specs.SummaryRule.{summarise_on-no_page, summarise_on_short, summarise_on-page}
 use Rattle.summary.specs.SummaryRule.{check_on-no_page, check_on_short, check_on-other}

@@ -55,19 +55,16 @@ use Rattle.score.specs.declared.Scored.{Scored}
 use Rattle.score.specs.declared.Scales.{Scales}
 use Rattle.encoder.specs.declared.Code.{Code}
 use Rattle.encoder.specs.Encode.{empty_code, encode_at_scale}
-use Rattle.page.specs.declared.Parsed.{Parsed}
-use Rattle.page.specs.declared.PageRead.{PageRead}
-use Rattle.page.specs.declared.Formed.{Formed}
 use Rattle.shown.specs.declared.Printed.{Printed}
 use Rattle.page.specs.Page.{Page, page_text}
 use Rattle.page.specs.Counts.{page_counts, ToEven}
+use Rattle.page.specs.Answer.{Parsed, PageRead}
+use Rattle.page.specs.Form.{Formed}
 use Rattle.text.specs.Text.{refused_text}
 use Rattle.shown.specs.Shown.{block_texts, in_array}
-use Rattle.writer.specs.declared.Written.{Written}
-use Rattle.writer.specs.Writer.{scale_of, words_for, written_of, Wide, Far, NoneBelow}
-use Rattle.summary.specs.declared.Summed.{Summed}
+use Rattle.writer.specs.Writer.{Written, scale_of, words_for, written_of, Wide, Far, NoneBelow}
 use Rattle.summary.specs.Summary.{points, odds, summary_of, cells_for}
-use Rattle.summary.specs.Answer.{longer}
+use Rattle.summary.specs.Answer.{Summed, longer}
 use Rattle.summary.specs.SummaryRule.{Agrees, Kept, RowIs}
 use Rattle.demands.specs.Promised.{Even, Coded}
 use Rattle.trace.specs.Trace.{Trace}

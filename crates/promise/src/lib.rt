@@ -14,6 +14,11 @@ ghost use Rattle.search.specs.Parity.{even_parities};
 ghost use Rattle.encoder.specs.Encode.{number_at, number_of, encode_at_scale, encode_with, encode_samples};
 ghost use Rattle.encoder.specs.Encode.{encode_at_over, encode_over, encode_samples_over};
 ghost use Rattle.even.specs.Even.{even_decoded, even_encoded};
+ghost use Rattle.refusal.specs.Refusal.{number_in};
+ghost use Rattle.page.specs.Answer.{parsed_by, read_by};
+ghost use Rattle.page.specs.Form.{formed_by};
+ghost use Rattle.writer.specs.Writer.{written_by};
+ghost use Rattle.summary.specs.Answer.{summed_by};
 ghost use Rattle.promise.specs.Demands.{PointOfWord, BackToWord};
 ghost use Rattle.promise.specs.Demands.{RefusesOthers, AcceptsMembers, KeepsPoint, RefusesByFour, SaysWhy};
 ghost use Rattle.promise.specs.Demands.{Numbered, KeepsCode, ReturnsNearest, Scores, Scaled};
@@ -34,13 +39,12 @@ ghost use Rattle.promise.specs.Demands.{ReadsEvenPages, RefusesToReadEven};
 use encoder::Code;
 use even::Decoded;
 use made::Made;
-use page::{Formed, PageRead, Parsed};
+use page::Page;
 use refusal::Refusal;
 use score::{Scales, Scored};
 use shown::Printed;
-use summary::Summed;
 use tetra::Encoded;
-use writer::Written;
+use writer::Unwritten;
 
 // A word's point, and what the point encodes to.
 #[derive(Clone, Copy)]
@@ -192,20 +196,20 @@ pub fn root_of(x: f64) -> Result<f64, Refusal>
 
 // ---- pages
 // `parse`.
-pub fn parsed_page(text: &[u8]) -> Parsed
-    ensures parses_pages { ParsesPages text.now result }
-    ensures parses_no_other { ParsesNoOther text.now result }
+pub fn parsed_page(text: &[u8]) -> Result<Page, Refusal>
+    ensures parses_pages { ParsesPages text.now (parsed_by result) }
+    ensures parses_no_other { ParsesNoOther text.now (parsed_by result) }
 {
     page::parse(text)
 }
 
 // `read`.
-pub fn from_page(text: &[u8], out: &mut [i32]) -> PageRead
-    ensures reads_pages { ReadsPages text.now out.old out.new result }
-    ensures rounds_to_even { RoundsToEven text.now out.new result }
-    ensures refuses_no_page { RefusesNoPage text.now out.old out.new result }
-    ensures refuses_short { RefusesShort text.now out.old out.new result }
-    ensures accepts_pages_only { AcceptsPagesOnly text.now result }
+pub fn from_page(text: &[u8], out: &mut [i32]) -> Result<usize, Refusal>
+    ensures reads_pages { ReadsPages text.now out.old out.new (read_by result) }
+    ensures rounds_to_even { RoundsToEven text.now out.new (read_by result) }
+    ensures refuses_no_page { RefusesNoPage text.now out.old out.new (read_by result) }
+    ensures refuses_short { RefusesShort text.now out.old out.new (read_by result) }
+    ensures accepts_pages_only { AcceptsPagesOnly text.now (read_by result) }
 {
     page::read(text, out)
 }
@@ -219,21 +223,31 @@ pub fn printed_page(text: &[u8]) -> Printed
 }
 
 // `form`, the inverse of `parse`.
-pub fn formed_page(num: u32, count: usize, words: [u64; 64], out: &mut [u8]) -> Formed
-    ensures forms_pages { FormsPages num count words out.old out.new result }
-    ensures forms_page { FormsPage num count words out.new result }
-    ensures refuses_to_form { RefusesToForm num count words out.old out.new result }
+pub fn formed_page(
+    num: u32,
+    count: usize,
+    words: [u64; 64],
+    out: &mut [u8],
+) -> Result<usize, Refusal>
+    ensures forms_pages { FormsPages num count words out.old out.new (formed_by result) }
+    ensures forms_page { FormsPage num count words out.new (formed_by result) }
+    ensures refuses_to_form { RefusesToForm num count words out.old out.new (formed_by result) }
 {
     page::form(num, count, words, out)
 }
 
 // `write`: whole samples to the text of their page.
-pub fn written_page(num: u32, count: usize, samples: &[i32], text: &mut [u8]) -> Written
-    ensures writes_page { WritesPage num count samples.now text.old text.new result }
-    ensures codes_blocks { CodesBlocks num count samples.now result }
-    ensures writes_nearest { WritesNearest num count samples.now result }
-    ensures refuses_to_write { RefusesToWrite num count samples.now text.old text.new result }
-    ensures writes_others { WritesOthers num count samples.now text.old result }
+pub fn written_page(
+    num: u32,
+    count: usize,
+    samples: &[i32],
+    text: &mut [u8],
+) -> Result<usize, Unwritten>
+    ensures writes_page { WritesPage num count samples.now text.old text.new (written_by result) }
+    ensures codes_blocks { CodesBlocks num count samples.now (written_by result) }
+    ensures writes_nearest { WritesNearest num count samples.now (written_by result) }
+    ensures refuses_to_write { RefusesToWrite num count samples.now text.old text.new (written_by result) }
+    ensures writes_others { WritesOthers num count samples.now text.old (written_by result) }
 {
     writer::write(num, count, samples, text)
 }
@@ -248,27 +262,27 @@ pub fn made_page(text: &[u8]) -> Made
 
 // ---- summaries beside pages
 // `summarise`: a page to its rows.
-pub fn summarised_page(text: &[u8], rows: &mut [i32]) -> Summed
-    ensures summarises_pages { SummarisesPages text.now rows.old rows.new result }
-    ensures rows_say { RowsSay text.now rows.new result }
-    ensures refuses_to_summarise { RefusesToSummarise text.now rows.old rows.new result }
+pub fn summarised_page(text: &[u8], rows: &mut [i32]) -> Result<usize, Refusal>
+    ensures summarises_pages { SummarisesPages text.now rows.old rows.new (summed_by result) }
+    ensures rows_say { RowsSay text.now rows.new (summed_by result) }
+    ensures refuses_to_summarise { RefusesToSummarise text.now rows.old rows.new (summed_by result) }
 {
     summary::summarise(text, rows)
 }
 
 // `check`: whether rows are a page's.
-pub fn checked_summary(text: &[u8], rows: &[i32]) -> u32
-    ensures checks_summary { ChecksSummary text.now rows.now result }
-    ensures refuses_to_check { RefusesToCheck text.now rows.now result }
+pub fn checked_summary(text: &[u8], rows: &[i32]) -> Result<(), Refusal>
+    ensures checks_summary { ChecksSummary text.now rows.now (number_in result) }
+    ensures refuses_to_check { RefusesToCheck text.now rows.now (number_in result) }
 {
     summary::check(text, rows)
 }
 
 // `add`: rows with one word more.
-pub fn added_word(text: &[u8], word: u64, rows: &mut [i32]) -> Summed
-    ensures adds_word { AddsWord text.now word rows.old rows.new result }
-    ensures keeps_summary { KeepsSummary text.now word rows.old rows.new result }
-    ensures refuses_to_add { RefusesToAdd text.now rows.old rows.new result }
+pub fn added_word(text: &[u8], word: u64, rows: &mut [i32]) -> Result<usize, Refusal>
+    ensures adds_word { AddsWord text.now word rows.old rows.new (summed_by result) }
+    ensures keeps_summary { KeepsSummary text.now word rows.old rows.new (summed_by result) }
+    ensures refuses_to_add { RefusesToAdd text.now rows.old rows.new (summed_by result) }
 {
     summary::add(text, word, rows)
 }
@@ -357,9 +371,9 @@ fn with_even_back(code: Code) -> EvenFromSamples
 }
 
 // `read_page`.
-pub fn even_page(text: &[u8], out: &mut [i32]) -> PageRead
-    ensures reads_even_pages { ReadsEvenPages text.now out.old out.new result }
-    ensures refuses_to_read_even { RefusesToReadEven text.now out.old out.new result }
+pub fn even_page(text: &[u8], out: &mut [i32]) -> Result<usize, Refusal>
+    ensures reads_even_pages { ReadsEvenPages text.now out.old out.new (read_by result) }
+    ensures refuses_to_read_even { RefusesToReadEven text.now out.old out.new (read_by result) }
 {
     even::read_page(text, out)
 }

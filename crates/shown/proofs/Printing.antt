@@ -10,8 +10,7 @@ use lib.ListN.{length, take, drop, replicate, length-drop}
 use lib.Seq.{sets, drop-drop, take-append-le, drop-append-le}
 use Rattle.text.specs.Text.{refused_text}
 use Rattle.text.specs.Laws.Placed.{into_zeros}
-use Rattle.page.specs.declared.PageRead.{PageRead}
-use Rattle.page.specs.Answer.{number_in, words_in, counts_in, read_of, cells_of}
+use Rattle.page.specs.Answer.{PageRead, number_in, words_in, counts_in, read_of, cells_of}
 use Rattle.page.specs.Reader.{reading_of}
 use Rattle.page.specs.Laws.Answer.{counts-length, few_words, whole_read, whole_cells}
 use Rattle.shown.specs.Shown.{block_text, block_texts, printed, in_array}

@@ -59,13 +59,14 @@ pub fn unpage(text: &[u8]) -> Printed
     ensures { (result ≡ in_array (printed (reading_of text.now))) × (result.length ≤ 20672) }
 {
     let mut counts = [0i32; 1536];
-    let answer = read(text, &mut counts);
     let mut bytes = [0u8; 20672];
-    let number = answer.number;
-    if number != 0 {
-        let length = put_line(&mut bytes, 0, b"refused=", number as u64);
-        return Printed { length, bytes };
-    }
-    let length = put_all(&mut bytes, &counts, answer.count);
+    let count = match read(text, &mut counts) {
+        Ok(count) => count,
+        Err(refusal) => {
+            let length = put_line(&mut bytes, 0, b"refused=", refusal.number() as u64);
+            return Printed { length, bytes };
+        }
+    };
+    let length = put_all(&mut bytes, &counts, count);
     Printed { length, bytes }
 }

@@ -13,9 +13,8 @@ use Rattle.text.specs.Laws.Placed.{Grown, grown-more, placed-fits, behind-fits, 
 use Rattle.page.specs.Answer.{Reading, page, malformed, number_in, words_in}
 use Rattle.page.specs.Reader.{reading_of}
 use Rattle.page.specs.Laws.Answer.{few_words}
-use Rattle.summary.specs.declared.Summed.{Summed}
 use Rattle.summary.specs.Summary.{summary_of, cells_for}
-use Rattle.summary.specs.Answer.{summarise_number, summarised, summarised_rows}
+use Rattle.summary.specs.Answer.{Summed, summarise_number, summarised, summarised_rows}
 use Rattle.summary.specs.Laws.Rows.{summary-length}
 use Rattle.summary.specs.Laws.Answers.{sum-good}
 use Rattle.sized.specs.Sized.{row_text, block_text, block_texts, summary_text, printed, in_array}

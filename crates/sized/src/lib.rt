@@ -89,13 +89,14 @@ pub fn sizes(text: &[u8]) -> Printed
     ensures { (result ≡ in_array (printed (reading_of text.now))) × (result.length ≤ 5331) }
 {
     let mut rows = [0i32; 260];
-    let answer = summarise(text, &mut rows);
     let mut bytes = [0u8; 5331];
-    let number = answer.number;
-    if number != 0 {
-        let length = put_line(&mut bytes, 0, b"refused=", number as u64);
-        return Printed { length, bytes };
-    }
-    let length = put_summary(&mut bytes, &rows, answer.count);
+    let count = match summarise(text, &mut rows) {
+        Ok(count) => count,
+        Err(refusal) => {
+            let length = put_line(&mut bytes, 0, b"refused=", refusal.number() as u64);
+            return Printed { length, bytes };
+        }
+    };
+    let length = put_summary(&mut bytes, &rows, count);
     Printed { length, bytes }
 }

@@ -1,10 +1,19 @@
 -- What the calls answer, once it is known what the text is, and what they leave in the rows that are lent to them. Definitions only.
-use Rattle.std.specs.Prelude.{Bool, true, false, cond, ◌&&◌, List, [], ◌∷◌, ◌++◌, ℕ, ◌+◌, ◌%◌, ◌^◌, eqb, ltb, leb, ℤ, length, drop}
+use Rattle.std.specs.Prelude.{Bool, true, false, cond, ◌&&◌, List, [], ◌∷◌, ◌++◌, ℕ, ◌+◌, ◌%◌, ◌^◌, eqb, ltb, leb, ℤ, length, drop, Result, Ok, Err}
 use Rattle.laws.specs.Words.{eq_z}
-use Rattle.refusal.specs.Refusal.{no_room, no_page, disagrees}
+use Rattle.refusal.specs.declared.Refusal.{Refusal}
+use Rattle.refusal.specs.Refusal.{no_room, no_page, disagrees, number_of}
 use Rattle.page.specs.Answer.{Reading, number_in, words_in}
-use Rattle.summary.specs.declared.Summed.{Summed}
 use Rattle.summary.specs.Summary.{summary_of, cells_for}
+
+-- an answer in document 02's terms: number 0 and how many blocks the rows are of, or the number of a refusal and 0
+pub record Summed : Type 0 where
+  pub number : ℕ
+  pub count : ℕ
+
+abbrev pub summed_by : Result ℕ Refusal → Summed
+summed_by (Ok count) = record { number = 0; count = count }
+summed_by (Err r) = record { number = number_of r; count = 0 }
 
 -- the number, and beside 0 the count of blocks
 abbrev pub summed : ℕ → ℕ → Summed

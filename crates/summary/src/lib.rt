@@ -9,24 +9,10 @@ ghost use Rattle.std.specs.Prelude.{◌≡◌, ◌+◌, ◌*◌, ◌≤◌, leng
 ghost use Rattle.std.proofs.lemmas.List.Edits.{sets};
 ghost use Rattle.page.specs.Reader.{reading_of};
 ghost use Rattle.summary.specs.Summary.{summary_of, cells_for};
-ghost use Rattle.summary.specs.Answer.{begin, agree, summed, summarised, summarised_rows, checked, added, added_rows};
+ghost use Rattle.refusal.specs.Refusal.{number_in};
+ghost use Rattle.summary.specs.Answer.{begin, agree, summed_by, summarised, summarised_rows, checked, added, added_rows};
 
-use refusal::{DISAGREES, NO_PAGE, NO_ROOM};
-
-// What `summarise` and `add` answer: number 0 and how many blocks the rows are of; or the number of the
-// refusal and 0.
-#[derive(Clone, Copy)]
-pub struct Summed {
-    pub number: u32,
-    pub count: usize,
-}
-
-// A refusal: its number and 0.
-fn refused(number: u32) -> Summed
-    ensures { result ≡ record { number = number; count = 0 } }
-{
-    Summed { number, count: 0 }
-}
+use refusal::Refusal;
 
 // Writes a row from `at` on.
 fn put_row(rows: &mut [i32], at: usize, row: [i32; 4])
@@ -82,81 +68,63 @@ fn rows_agree(rows: &[i32], words: [u64; 64], count: usize) -> bool
     true
 }
 
-// Works out the summary of a page, into `rows` from its start on. Refused with 9 where the text is no page,
-// then with 8 where there are fewer than 4 cells for the page and 4 for each block. A refusal writes nothing.
-pub fn summarise(text: &[u8], rows: &mut [i32]) -> Summed
-    ensures value { result ≡ summarised (reading_of text.now) (length rows.old) }
+// Works out the summary of a page, into `rows` from its start on, and answers how many blocks it is of. Refused with 9 where the text is no
+// page, then with 8 where there are fewer than 4 cells for the page and 4 for each block. A refusal writes nothing.
+pub fn summarise(text: &[u8], rows: &mut [i32]) -> Result<usize, Refusal>
+    ensures value { summed_by result ≡ summarised (reading_of text.now) (length rows.old) }
     ensures rows_after { rows.new ≡ summarised_rows (reading_of text.now) rows.old }
 {
-    let page = page::parse(text);
-    let number = page.number;
-    if number != 0 {
-        return refused(number);
-    }
+    let page = page::parse(text)?;
     let count = page.count;
     if rows.len() < 4 * (count + 1) {
-        return refused(NO_ROOM);
+        return Err(Refusal::NoRoom);
     }
-    let words = page.words;
-    put_summary(rows, words, count);
-    Summed { number: 0, count }
+    put_summary(rows, page.words, count);
+    Ok(count)
 }
 
-// Whether `rows` begin with the summary of the page: 0 where they do. Refused with 9 where the text is no
-// page, 8 where there are fewer cells than its summary has, 14 where a cell is another.
-pub fn check(text: &[u8], rows: &[i32]) -> u32
-    ensures { result ≡ checked (reading_of text.now) rows.now }
+// Whether `rows` begin with the summary of the page. Refused with 9 where the text is no page, 8 where there are fewer cells than its summary
+// has, 14 where a cell is another.
+pub fn check(text: &[u8], rows: &[i32]) -> Result<(), Refusal>
+    ensures { number_in result ≡ checked (reading_of text.now) rows.now }
 {
-    let page = page::parse(text);
-    let number = page.number;
-    if number != 0 {
-        return number;
-    }
+    let page = page::parse(text)?;
     let count = page.count;
     if rows.len() < 4 * (count + 1) {
-        return NO_ROOM;
+        return Err(Refusal::NoRoom);
     }
-    let words = page.words;
-    if !rows_agree(rows, words, count) {
-        return DISAGREES;
+    if rows_agree(rows, page.words, count) {
+        Ok(())
+    } else {
+        Err(Refusal::Disagrees)
     }
-    0
 }
 
-// Brings the summary of a page up to date for one word more, of which the low 48 bits count: what is left in
-// `rows` is the summary of the page with that word behind the others. The page's row is written anew and the
-// new block's row behind the others; nothing else is. Refused with 9 where the text is no page or has 64
-// words, 8 where there are fewer cells than the longer summary has, 14 where the rows are not the summary of
-// the page. A refusal writes nothing.
-pub fn add(text: &[u8], word: u64, rows: &mut [i32]) -> Summed
-    ensures value { result ≡ added (reading_of text.now) rows.old }
+// Brings the summary of a page up to date for one word more, of which the low 48 bits count: what is left in `rows` is the summary of the page
+// with that word behind the others, and the answer is how many blocks it is of. The page's row is written anew and the new block's row behind
+// the others; nothing else is. Refused with 9 where the text is no page or has 64 words, 8 where there are fewer cells than the longer summary
+// has, 14 where the rows are not the summary of the page. A refusal writes nothing.
+pub fn add(text: &[u8], word: u64, rows: &mut [i32]) -> Result<usize, Refusal>
+    ensures value { summed_by result ≡ added (reading_of text.now) rows.old }
     ensures rows_after { rows.new ≡ added_rows (reading_of text.now) word rows.old }
 {
-    let page = page::parse(text);
-    let number = page.number;
-    if number != 0 {
-        return refused(number);
-    }
+    let page = page::parse(text)?;
     let count = page.count;
     if 64 <= count {
-        return refused(NO_PAGE);
+        return Err(Refusal::NoPage);
     }
     if rows.len() < 4 * (count + 2) {
-        return refused(NO_ROOM);
+        return Err(Refusal::NoRoom);
     }
-    let words = page.words;
-    if !rows_agree(rows, words, count) {
-        return refused(DISAGREES);
+    if !rows_agree(rows, page.words, count) {
+        return Err(Refusal::Disagrees);
     }
     let block = row::block_row(word);
     put_row(
         rows,
         0,
-        row::joined(count, row::page_row(words, count), block),
+        row::joined(count, row::page_row(page.words, count), block),
     );
     put_row(rows, 4 * (count + 1), block);
-    Summed {
-        number: 0,
-        count: count + 1,
-    }
+    Ok(count + 1)
 }

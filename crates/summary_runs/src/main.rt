@@ -6,6 +6,7 @@
 ghost use Rattle.std.specs.Prelude.{◌<◌, ◌≤◌, length};
 ghost use Rattle.std.specs.Io.{ReadsAtMost};
 
+use refusal::Refusal;
 use std::io;
 use std::io::Read;
 
@@ -33,14 +34,20 @@ fn print_cell(rt: &impl Print, index: usize, z: i32) -> io::Result<()> {
     print!(rt; "{m}")
 }
 
-// An answer, and the cells that the call was lent.
-fn print_answer(rt: &impl Print, number: u32, count: usize, cells: &[i32]) -> io::Result<()> {
-    print_number(rt, " number=", number as u64)?;
-    print_number(rt, " count=", count as u64)?;
-    let mut i: usize = 0;
-    while i < cells.len() {
-        print_cell(rt, i, cells[i])?;
-        i += 1;
+// The number of an answer: 0 where it is accepted.
+fn number_of<T: Drop>(answer: Result<T, Refusal>) -> u32 {
+    match answer {
+        Ok(_) => 0,
+        Err(refusal) => refusal.number(),
+    }
+}
+
+// An answer, of which a refusal has the count 0, and the cells that the call was lent.
+fn print_answer(rt: &impl Print, answer: Result<usize, Refusal>, cells: &[i32]) -> io::Result<()> {
+    print_number(rt, " number=", number_of(answer) as u64)?;
+    print_number(rt, " count=", answer.unwrap_or(0) as u64)?;
+    for (i, cell) in cells.iter().enumerate() {
+        print_cell(rt, i, *cell)?;
     }
     print(rt, "\n")
 }
@@ -59,18 +66,15 @@ fn copied(rows: [i32; 260], count: usize) -> [i32; 265]
     requires { count ≤ 64 }
 {
     let mut cells = [9i32; 265];
-    let mut i: usize = 0;
-    while i < 4 * (count + 1) {
-        cells[i] = rows[i];
-        i += 1;
-    }
+    let n = 4 * (count + 1);
+    cells[..n].copy_from_slice(&rows[..n]);
     cells
 }
 
 fn show_check(rt: &impl Print, key: &str, text: &[u8], rows: [i32; 260], n: usize) -> io::Result<()>
     requires { n ≤ 260 }
 {
-    print_number(rt, key, summary::check(text, &rows[..n]) as u64)
+    print_number(rt, key, number_of(summary::check(text, &rows[..n])) as u64)
 }
 
 // The summary as it is, with cells behind it; its last cell changed; the page's smallest; a cell too few.
@@ -88,7 +92,7 @@ fn show_checks(rt: &impl Print, text: &[u8], rows: [i32; 260], count: usize) -> 
 fn show_add(rt: &impl Print, text: &[u8], word: u64, cells: &mut [i32]) -> io::Result<()> {
     let summed = summary::add(text, word, cells);
     print!(rt; "add={word:016x}")?;
-    print_answer(rt, summed.number, summed.count, cells)
+    print_answer(rt, summed, cells)
 }
 
 // A word added to the first n of the cells.
@@ -134,9 +138,9 @@ fn shown(count: usize) -> usize
 fn answer(rt: &impl Print, text: &[u8]) -> io::Result<()> {
     let mut rows = [7i32; 260];
     let summed = summary::summarise(text, &mut rows);
-    let count = summed.count;
+    let count = summed.unwrap_or(0);
     print(rt, "summarise")?;
-    print_answer(rt, summed.number, count, &rows[..shown(count)])?;
+    print_answer(rt, summed, &rows[..shown(count)])?;
     show_checks(rt, text, rows, count)?;
     show_adds(rt, text, rows, count)
 }

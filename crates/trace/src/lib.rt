@@ -5,41 +5,22 @@
 // No public call has a `requires`. A text of any other form is refused, whatever part of it is like a trace.
 #![tactic(auto)]
 
+mod content;
+
 ghost use Rattle.std.specs.Prelude.{◌≡◌, ◌+◌, ◌<◌, ◌≤◌, pos, length, replicate};
 ghost use Rattle.std.proofs.lemmas.List.Edits.{sets};
-ghost use Rattle.trace.specs.Answer.{refused_by, traced_of};
+ghost use Rattle.trace.specs.Answer.{traced_by, traced_of};
 ghost use Rattle.trace.specs.Reader.{block_at, blocks_at, trace_in};
 
-use refusal::NO_PAGE;
+pub use content::Trace;
+use refusal::Refusal;
 use text::{Read, decimal_line, list_line};
-
-// What a text says: number 0, num, how many blocks it has, and their samples in a row, 24 a block, with zeros
-// behind them; or number 9 and zeros.
-#[derive(Clone, Copy)]
-pub struct Traced {
-    pub number: u32,
-    pub num: u32,
-    pub count: usize,
-    pub samples: [i32; 1536],
-}
 
 // No samples yet.
 fn no_samples() -> [i32; 1536]
     ensures { result ≡ replicate 1536 (pos 0) }
 {
     [0i32; 1536]
-}
-
-// A refusal: its number and zeros.
-fn refused(number: u32) -> Traced
-    ensures { result ≡ refused_by number }
-{
-    Traced {
-        number,
-        num: 0,
-        count: 0,
-        samples: no_samples(),
-    }
 }
 
 // The two lines of the block of this index: its samples, and how many bytes both lines take.
@@ -65,38 +46,37 @@ fn put_block(out: &mut [i32], at: usize, values: [i32; 24])
 
 // The rest of a trace behind its num line: blocks in order from 0 on, up to the text's end. The text does not
 // say how many they are; there are at most 64.
-fn blocks_of(text: &[u8], num: u32) -> Traced
-    ensures { result ≡ traced_of (blocks_at num 0 64 text.now) }
+fn blocks_of(text: &[u8], num: u32) -> Result<Trace, Refusal>
+    ensures { traced_by result ≡ traced_of (blocks_at num 0 64 text.now) }
 {
     let mut samples = no_samples();
     let mut at: usize = 0;
     let mut i: usize = 0;
     while at < text.len() {
         if i == 64 {
-            return refused(NO_PAGE);
+            return Err(Refusal::NoPage);
         }
         let Some(block) = block_at(&text[at..], i) else {
-            return refused(NO_PAGE);
+            return Err(Refusal::NoPage);
         };
         let (values, n) = block;
         put_block(&mut samples, 24 * i, values);
         at += n;
         i += 1;
     }
-    Traced {
-        number: 0,
+    Ok(Trace {
         num,
         count: i,
         samples,
-    }
+    })
 }
 
 // The trace that a text is, read whole before anything is answered.
-pub fn parse(text: &[u8]) -> Traced
-    ensures { result ≡ traced_of (trace_in text.now) }
+pub fn parse(text: &[u8]) -> Result<Trace, Refusal>
+    ensures { traced_by result ≡ traced_of (trace_in text.now) }
 {
     let Some((num, n)) = decimal_line(text, b"num=", 0, 4294967295) else {
-        return refused(NO_PAGE);
+        return Err(Refusal::NoPage);
     };
     blocks_of(&text[n..], num as u32)
 }

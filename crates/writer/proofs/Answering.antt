@@ -8,13 +8,11 @@ use borrow.Author.Tests.{ltb-true, ltb-false, eqb-true, eqb-false}
 use lib.Dec.{ltb, eqb}
 use lib.IntN.{ℤ}
 use lib.ListN.{length, take}
-use Rattle.page.specs.declared.Formed.{Formed}
 use Rattle.page.specs.Page.{page_text}
-use Rattle.page.specs.Form.{is_num, formed_of, form_in}
+use Rattle.page.specs.Form.{Formed, is_num, formed_of, form_in}
 use Rattle.page.specs.FormRule.{on_short_text, on_formed}
 use Rattle.page.specs.Laws.Form.{is_num_lem, num_is, num_not}
-use Rattle.writer.specs.declared.Written.{Written}
-use Rattle.writer.specs.Writer.{scale_of, first_wide, first_far, words_for, text_of, written_of, text_after, Gives}
+use Rattle.writer.specs.Writer.{Written, scale_of, first_wide, first_far, words_for, text_of, written_of, text_after, Gives}
 use Rattle.writer.specs.Laws.Answers.{short_text, wrote}
 
 -- ---- the test of num

@@ -1,17 +1,17 @@
 -- What the page writer answers: request 2026-01 of document 02. Blocks are numbered from 0; block i is the 24 samples from place 24 * i on, so
 -- samples behind the last block are not looked at. Definitions only.
-use Rattle.std.specs.Prelude.{◌≡◌, Bool, false, cond, not, ◌||◌, List, [], ◌∷◌, ◌++◌, ℕ, zero, suc, ◌+◌, ◌*◌, ◌<◌, ltb, eqb, ℤ, pos, nat_abs, Float, length, drop, get_or}
+use Rattle.std.specs.Prelude.{◌≡◌, Bool, false, cond, not, ◌||◌, List, [], ◌∷◌, ◌++◌, ℕ, zero, suc, ◌+◌, ◌*◌, ◌<◌, ltb, eqb, ℤ, pos, nat_abs, Float, length, drop, get_or, Result, Ok, Err}
 use Rattle.std.specs.Float.{fin, binary64}
 use Rattle.std.specs.Float.Ieee.{div, of_int}
 use Rattle.laws.specs.Words.{tab}
-use Rattle.refusal.specs.Refusal.{too_large, no_scale, too_far, no_room, no_page}
+use Rattle.refusal.specs.Refusal.{too_large, no_scale, too_far, no_room, no_page, number_of}
 use Rattle.tetra.specs.Block.{block_at}
 use Rattle.score.specs.Samples.{scale_number}
 use Rattle.score.specs.Score.{doubles_of}
 use Rattle.encoder.specs.Encode.{number_at, encode_at_scale}
 use Rattle.page.specs.Page.{page_text}
 use Rattle.page.specs.Form.{is_num}
-use Rattle.writer.specs.declared.Written.{Written}
+use Rattle.writer.specs.declared.Unwritten.{Unwritten}
 
 -- ---- the scale of a page: num / 256. That it is exact is `scale_exact` of WriterRule.antt
 unfoldable pub scale_of : ℕ → Float
@@ -50,6 +50,16 @@ words_for s xs count = tab (word_for s xs) count
 -- the text of the page
 unfoldable pub text_of : ℕ → ℕ → List ℤ → List ℕ
 text_of num count xs = page_text num (words_for (scale_of num) xs count)
+
+-- an answer in document 02's terms: number 0 and the text's length; or the number of a refusal, and for 2 and 4 the lowest block that has it
+pub record Written : Type 0 where
+  pub number : ℕ
+  pub block : ℕ
+  pub length : ℕ
+
+abbrev pub written_by : Result ℕ Unwritten → Written
+written_by (Ok n) = record { number = 0; block = 0; length = n }
+written_by (Err u) = record { number = number_of u.refusal; block = u.block; length = 0 }
 
 abbrev pub refused_at : ℕ → ℕ → Written
 refused_at number block = record { number = number; block = block; length = 0 }

@@ -5,17 +5,24 @@
 
 ghost use Rattle.std.specs.Prelude.{◌≡◌, ◌*◌, ◌≤◌, length, take};
 ghost use Rattle.writer.specs.Writer.{scale_of, is_wide, is_far, first_wide, first_far, word_for, words_for};
-ghost use Rattle.writer.specs.Writer.{refused_at, written_of, text_after};
+ghost use Rattle.writer.specs.Writer.{written_by, written_of, text_after};
 
-use refusal::{NO_PAGE, NO_ROOM, NO_SCALE, TOO_FAR, TOO_LARGE};
+use refusal::{Refusal, TOO_FAR};
 
-// What `write` answers: number 0 and the length of the text; or the number of the refusal, and for 2 and 4 the
-// lowest block that has it.
-#[derive(Clone, Copy)]
-pub struct Written {
-    pub number: u32,
+// Why no page is written: the reason, and for a sample that is too large and a block that is too far the lowest block that has it; else 0.
+#[derive(Clone, Copy, Debug, PartialEq, Eq)]
+pub struct Unwritten {
+    pub refusal: Refusal,
     pub block: usize,
-    pub length: usize,
+}
+
+impl From<Refusal> for Unwritten {
+    ghost from_gives = { λ r u. u ≡ record { refusal = r; block = 0 } };
+
+    // A reason that is about no block.
+    fn from(refusal: Refusal) -> Unwritten {
+        Unwritten { refusal, block: 0 }
+    }
 }
 
 // num / 256, which is exact.
@@ -97,49 +104,40 @@ fn words_for(samples: &[i32], count: usize, scale: f64) -> [u64; 64]
     words
 }
 
-// A refusal: its number, the block that has it, and length 0.
-fn refused(number: u32, block: usize) -> Written
-    ensures { result ≡ refused_at number block }
-{
-    Written {
-        number,
-        block,
-        length: 0,
-    }
-}
-
 // Writes a page: each block of 24 samples is encoded at the scale num / 256, and the text of the words goes
-// into `text`, from its start on. Refused with 3 for num 0 or above 65535, 9 for more than 64 blocks, 8 for
+// into `text`, from its start on. The answer is the text's length. Refused with 3 for num 0 or above 65535, 9 for more than 64 blocks, 8 for
 // fewer than 24 samples a block, 2 for a sample beyond 32767 in magnitude, 4 for a block that is too far for
 // the scale, 8 for a text that is too short. Each is looked for over all blocks before the next one is, and a
 // refusal writes nothing.
-pub fn write(num: u32, count: usize, samples: &[i32], text: &mut [u8]) -> Written
-    ensures value { result ≡ written_of num count samples.now (length text.old) }
+pub fn write(num: u32, count: usize, samples: &[i32], text: &mut [u8]) -> Result<usize, Unwritten>
+    ensures value { written_by result ≡ written_of num count samples.now (length text.old) }
     ensures text_after { text.new ≡ text_after num count samples.now text.old }
 {
     if (num == 0) | (65535 < num) {
-        return refused(NO_SCALE, 0);
+        return Err(Unwritten::from(Refusal::NoScale));
     }
     if 64 < count {
-        return refused(NO_PAGE, 0);
+        return Err(Unwritten::from(Refusal::NoPage));
     }
     if samples.len() < 24 * count {
-        return refused(NO_ROOM, 0);
+        return Err(Unwritten::from(Refusal::NoRoom));
     }
     let wide = first_wide(samples, count);
     if wide < count {
-        return refused(TOO_LARGE, wide);
+        return Err(Unwritten {
+            refusal: Refusal::TooLarge,
+            block: wide,
+        });
     }
     let scale = scale_of(num);
     let far = first_far(samples, count, scale);
     if far < count {
-        return refused(TOO_FAR, far);
+        return Err(Unwritten {
+            refusal: Refusal::TooFar,
+            block: far,
+        });
     }
     // num and count are good, so that of the refusals of `form` only the 8 for the text is left
-    let page = page::form(num, count, words_for(samples, count, scale), text);
-    Written {
-        number: page.number,
-        block: 0,
-        length: page.length,
-    }
+    let length = page::form(num, count, words_for(samples, count, scale), text)?;
+    Ok(length)
 }

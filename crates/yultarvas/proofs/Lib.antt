@@ -1,3 +1,4 @@
 mod Answers
+mod Counts
 mod Fronts
 mod Pages

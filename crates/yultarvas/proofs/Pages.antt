@@ -7,8 +7,7 @@ use native.Mathlib.Omega.{arith}
 use lib.Dec.{ltb}
 use lib.ListN.{length, take}
 use lib.Seq.{take-append_seam}
-use Rattle.page.specs.declared.Parsed.{Parsed}
-use Rattle.page.specs.Answer.{Reading, page, malformed, number_in, num_in, words_in, parsed_of}
+use Rattle.page.specs.Answer.{Parsed, Reading, page, malformed, number_in, num_in, words_in, parsed_of}
 use Rattle.page.specs.Reader.{reading_of}
 use Rattle.page.specs.PageRule.{only_pages}
 use Rattle.yultarvas.specs.Calls.{words_number}

@@ -11,8 +11,7 @@ use Rattle.score.specs.declared.Scored.{Scored}
 use Rattle.score.specs.Scale.{scales}
 use Rattle.score.specs.Score.{scored}
 use Rattle.encoder.specs.declared.Code.{Code}
-use Rattle.writer.specs.declared.Written.{Written}
-use Rattle.writer.specs.Writer.{written_of}
+use Rattle.writer.specs.Writer.{Written, written_of}
 use Rattle.encoder.specs.Encode.{encode_at_scale, encode_with, encode_samples}
 
 -- ---- for all calls

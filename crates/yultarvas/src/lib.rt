@@ -199,13 +199,7 @@ pub extern "C" fn yultarvas_read_page(text: &[u8], counts: &mut [i32], blocks: &
     ensures counts_after { counts.new ≡ page_cells text.now counts.old }
     ensures blocks_after { blocks.new ≡ page_blocks text.now counts.old blocks.old }
 {
-    let p = page::read(text, counts);
-    let number = p.number;
-    if number != 0 {
-        return number;
-    }
-    *blocks = p.count;
-    0
+    slices::put_count(page::read(text, counts), blocks)
 }
 
 // The num of a page, its words from the start of `words` on, and how many there are. Refused with 9 where the
@@ -222,18 +216,16 @@ pub extern "C" fn yultarvas_parse_page(
     ensures words_after { words.new ≡ left result (words_over (reading_of text.now) words.old) words.old }
     ensures count_after { count.new ≡ left result (length (words_in (reading_of text.now))) count.old }
 {
-    let parsed = page::parse(text);
-    let number = parsed.number;
-    if number != 0 {
-        return number;
-    }
-    let n = parsed.count;
+    let page = match page::parse(text) {
+        Ok(page) => page,
+        Err(refusal) => return refusal.number(),
+    };
+    let n = page.count;
     if words.len() < n {
         return NO_ROOM;
     }
-    let found = parsed.words;
-    slices::put_words(found, n, words);
-    *num = parsed.num;
+    slices::put_words(page.words, n, words);
+    *num = page.num;
     *count = n;
     0
 }
@@ -254,13 +246,13 @@ pub extern "C" fn yultarvas_write_page(
     ensures length_after { length.new ≡ left (written_page num count samples.now text.old).number
         (written_page num count samples.now text.old).length length.old }
 {
-    let w = writer::write(num, count, samples, text);
-    let number = w.number;
-    if number != 0 {
-        return (number as u64) + 4294967296 * (w.block as u64);
+    match writer::write(num, count, samples, text) {
+        Ok(n) => {
+            *length = n;
+            0
+        }
+        Err(why) => (why.refusal.number() as u64) + 4294967296 * (why.block as u64),
     }
-    *length = w.length;
-    0
 }
 
 // ---- a summary beside a page
@@ -274,13 +266,7 @@ pub extern "C" fn yultarvas_summarise(text: &[u8], rows: &mut [i32], blocks: &mu
     ensures rows_after { rows.new ≡ summarised_rows (reading_of text.now) rows.old }
     ensures blocks_after { blocks.new ≡ left result (length (words_in (reading_of text.now))) blocks.old }
 {
-    let made = summary::summarise(text, rows);
-    let number = made.number;
-    if number != 0 {
-        return number;
-    }
-    *blocks = made.count;
-    0
+    slices::put_count(summary::summarise(text, rows), blocks)
 }
 
 // Whether `rows` begin with the summary of the page: 0 where they do. Refused with 9 where the text is no page,
@@ -289,7 +275,10 @@ pub extern "C" fn yultarvas_summarise(text: &[u8], rows: &mut [i32], blocks: &mu
 pub extern "C" fn yultarvas_check_summary(text: &[u8], rows: &[i32]) -> u32
     ensures { result ≡ checked (reading_of text.now) rows.now }
 {
-    summary::check(text, rows)
+    match summary::check(text, rows) {
+        Ok(()) => 0,
+        Err(refusal) => refusal.number(),
+    }
 }
 
 // The summary in `rows` of the page brought up to date for one word more, of which the low 48 bits count, and
@@ -306,13 +295,7 @@ pub extern "C" fn yultarvas_add_word(
     ensures rows_after { rows.new ≡ added_rows (reading_of text.now) word rows.old }
     ensures blocks_after { blocks.new ≡ left result (length (words_in (reading_of text.now)) + 1) blocks.old }
 {
-    let a = summary::add(text, word, rows);
-    let number = a.number;
-    if number != 0 {
-        return number;
-    }
-    *blocks = a.count;
-    0
+    slices::put_count(summary::add(text, word, rows), blocks)
 }
 
 // ---- the environment

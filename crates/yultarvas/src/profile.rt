@@ -151,11 +151,5 @@ pub extern "C" fn yultarvas_even_read_page(
     ensures counts_after { counts.new ≡ even_page_cells text.now counts.old }
     ensures blocks_after { blocks.new ≡ even_page_blocks text.now counts.old blocks.old }
 {
-    let p = even::read_page(text, counts);
-    let number = p.number;
-    if number != 0 {
-        return number;
-    }
-    *blocks = p.count;
-    0
+    slices::put_count(even::read_page(text, counts), blocks)
 }

@@ -1,8 +1,11 @@
 // From a slice that is lent to a value, and back. What these functions require is what the calls have tested.
 ghost use Rattle.std.specs.Prelude.{◌≡◌, ◌++◌, ◌≤◌, length, take, drop};
+ghost use Rattle.std.specs.Result.{result_unwrap_or};
+ghost use Rattle.refusal.specs.Refusal.{number_in};
 ghost use Rattle.yultarvas.specs.Calls.{left, at_front, left_point};
 
 use encoder::Code;
+use refusal::Refusal;
 
 // The 24 samples at a slice's start.
 pub(crate) fn samples_of(s: &[f64]) -> [f64; 24]
@@ -42,6 +45,20 @@ pub(crate) fn put_words(words: [u64; 64], count: usize, out: &mut [u64])
 {
     for j in 0..count {
         out[j] = words[j];
+    }
+}
+
+// A count into the lent cell, unless there is none. Answers the number.
+pub(crate) fn put_count(answer: Result<usize, Refusal>, cell: &mut usize) -> u32
+    ensures value { result ≡ number_in answer }
+    ensures cell_after { cell.new ≡ result_unwrap_or answer cell.old }
+{
+    match answer {
+        Ok(count) => {
+            *cell = count;
+            0
+        }
+        Err(refusal) => refusal.number(),
     }
 }
 

@@ -1,13 +1,37 @@
--- `names_block` meets its contract. Assumes nothing.
-use borrow.Author.Tests.{eq-eqb, ne_eqb}
-use mathlib.Core.Path.{refl}
+-- `names_block` meets its contract: reason by reason. Assumes nothing.
+use mathlib.Core.Path.{◌≡◌, refl}
+use mathlib.Core.Bool.{true, false}
+use mathlib.Core.Logic.{◌⊎◌, inl, inr}
+use Rattle.refusal.specs.declared.Refusal.{Refusal}
+use Rattle.refusal.specs.declared.Refusal.TheVariants.{NotFinite, TooLarge, NoScale, TooFar, MixedParity, TooWide, OutOfRange, NoRoom, NoPage, NoCodeword, Outside, WrongSum, AllOdd, Disagrees}
+use Rattle.refusal.specs.Refusal.{number_of}
 use Rattle.made.specs.Made.{names_block}
 use Rattle.made.proofs.names_block.Goals as goal
 
-pub returns-then-number-eq-TOO_LARGE : goal.returns-then-number-eq-TOO_LARGE
+named : (r : Refusal) → (r ≡ TooLarge) ⊎ (r ≡ TooFar) → true ≡ names_block (number_of r)
 unfolding names_block
-returns-then-number-eq-TOO_LARGE c = rw (eq-eqb c.args.number 2 c.if-number-eq-TOO_LARGE.true) refl
+named r (inl e) = rw e refl
+named r (inr e) = rw e refl
 
-pub returns : goal.returns
+other : (r : Refusal) → (r ≡ TooLarge → ⊥) → (r ≡ TooFar → ⊥) → false ≡ names_block (number_of r)
 unfolding names_block
-returns c = rw (ne_eqb c.args.number 2 c.if-number-eq-TOO_LARGE.false) refl
+other NotFinite h k = refl
+other TooLarge h k = absurd (h refl)
+other NoScale h k = refl
+other TooFar h k = absurd (k refl)
+other MixedParity h k = refl
+other TooWide h k = refl
+other OutOfRange h k = refl
+other NoRoom h k = refl
+other NoPage h k = refl
+other NoCodeword h k = refl
+other (Outside section) h k = refl
+other WrongSum h k = refl
+other AllOdd h k = refl
+other Disagrees h k = refl
+
+pub returns-in-TooLarge : goal.returns-in-TooLarge
+returns-in-TooLarge c = named c.args.refusal c.in-TooLarge.is
+
+pub returns-in_default : goal.returns-in_default
+returns-in_default c = other c.args.refusal c.in_default.not-TooLarge c.in_default.not-TooFar

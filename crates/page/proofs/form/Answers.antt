@@ -8,8 +8,7 @@ use lib.ListN.{length, take, drop, replicate}
 use lib.Seq.{sets, sets-eq}
 use Rattle.text.specs.Placed.{placed, place_behind}
 use Rattle.text.specs.Laws.Placed.{placed-fits, placed_past, place_tells, place_past, front_back}
-use Rattle.page.specs.declared.Formed.{Formed}
-use Rattle.page.specs.Form.{form_text}
+use Rattle.page.specs.Form.{Formed, form_text}
 use Rattle.page.specs.FormRule.{on_bad_num, on_many_words, on_short_text, on_formed}
 use Rattle.page.specs.Laws.Form.{is_num_lem, no_num}
 use Rattle.page.proofs.form.Goals as goal

@@ -42,7 +42,7 @@ pub returns-in_default : goal.returns-in_default
 unfolding parsed_of reading_of
 returns-in_default c =
     let e = sym c.format_line.ensures ∙ c.in_default.is in
-    c.refused.ensures ∙ rw e
+    rw e
 
 pub slice_bounds-s-count : goal.slice_bounds-s-count
 slice_bounds-s-count c =
@@ -63,7 +63,7 @@ returns-in_default-decimal_line c =
     let e1 : format_at s ≡ Some (c.in-Some.field-0-0, c.in-Some.a) = sym c.format_line.ensures ∙ c.in-Some.is in
     let s1 = behind s c.in-Some.a in
     let e : decimal_line_at (bytes "num=") 1 65535 s1 ≡ None = sym c.decimal_line.ensures ∙ c.in_default-decimal_line.is in
-    c.refused-in_default-decimal_line.ensures ∙ rw (one s _ _ e1, e)
+    rw (one s _ _ e1, e)
 
 pub slice_bounds-t-count : goal.slice_bounds-t-count
 slice_bounds-t-count c =
@@ -91,7 +91,7 @@ returns-in_default-decimal_line-2 c =
     sym c.decimal_line.ensures ∙ c.in-Some-decimal_line.is in
     let s2 = behind s1 c.in-Some-decimal_line.b in
     let e : decimal_line_at (bytes "count=") 0 64 s2 ≡ None = sym c.decimal_line-2.ensures ∙ c.in_default-decimal_line-2.is in
-    c.refused-in_default-decimal_line-2.ensures ∙ rw (one s _ _ e1, two s1 _ _ e2, e)
+    rw (one s _ _ e1, two s1 _ _ e2, e)
 
 pub slice_bounds-words_of-count : goal.slice_bounds-words_of-count
 slice_bounds-words_of-count c =

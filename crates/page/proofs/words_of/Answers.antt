@@ -46,8 +46,7 @@ returns-in_default c =
     let l = c.loop-i in
     let a = c.args in
     let e = sym (answer (goal.at.returns-in_default c).After-word_line) ∙ c.in_default.is in
-    c.refused.ensures
-    ∙ ap parsed_of (sym (kept-bad a.text.now a.num a.count l.words l.at l.i l.invariant (omega arith) e))
+    ap parsed_of (sym (kept-bad a.text.now a.num a.count l.words l.at l.i l.invariant (omega arith) e))
 
 pub overflow_add-at : goal.overflow_add-at
 overflow_add-at c = omega (arith, room (goal.at.overflow_add-at c).In-Some, c.well_formed.0.0)
@@ -63,8 +62,7 @@ unfolding parsed_of
 returns-then-at-text c =
     let l = c.loop-i in
     let a = c.args in
-    c.refused-then-at-text.ensures
-    ∙ ap parsed_of (sym (kept_long a.text.now a.num a.count l.words l.at l.i l.invariant (omega arith) c.if-at-text.true))
+    ap parsed_of (sym (kept_long a.text.now a.num a.count l.words l.at l.i l.invariant (omega arith) c.if-at-text.true))
 
 pub returns : goal.returns
 returns c =

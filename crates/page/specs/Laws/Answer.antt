@@ -1,9 +1,12 @@
 -- What the answers of `parse` and `read` tell of a text. Assumes nothing.
-use Rattle.std.specs.Prelude.{◌≡◌, refl, List, ◌++◌, ℕ, ◌*◌, ◌≤◌, ℤ, length, take, drop}
+use Rattle.std.specs.Prelude.{◌≡◌, refl, List, ◌++◌, ℕ, ◌*◌, ◌≤◌, ℤ, length, take, drop, Ok, Err}
 use Rattle.std.proofs.Common.{ap, sym, ◌∙◌, arith, le-ltb}
 use Rattle.std.proofs.Math.Seq.{take-append_seam}
-use Rattle.page.specs.declared.Parsed.{Parsed}
-use Rattle.page.specs.Answer.{Reading, page, malformed, number_in, words_in, counts_in, parsed_of, read_of, cells_of}
+use Rattle.refusal.specs.declared.Refusal.{Refusal}
+use Rattle.refusal.specs.Refusal.{number_of}
+use Rattle.refusal.specs.Laws.{never_0}
+use Rattle.page.specs.declared.content.Page.{Page}
+use Rattle.page.specs.Answer.{Parsed, parsed_by, Reading, page, malformed, number_in, words_in, counts_in, parsed_of, read_of, cells_of}
 use Rattle.page.specs.Laws.Count.{page-length}
 use Rattle.page.specs.Reader.{reading_of}
 use Rattle.page.specs.PageRule.{only_pages}
@@ -42,6 +45,13 @@ some-page text p e h = go (reading_of text) refl e
           count_most = omega (arith, g.count_most);
         }
     go malformed r e = absurd (omega (arith, ap (λ (q : Parsed). q.number) e))
+
+-- the same of the answer itself: a reason is that of no page, and a page is the one that the text is
+pub refused-reason : (R : Reading) (r : Refusal) → parsed_by (Err r) ≡ parsed_of R → (R ≡ malformed) × (number_of r ≡ 9)
+refused-reason R r e = refused-number R (parsed_by (Err r)) e (never_0 r)
+
+pub read-page : (text : List ℕ) (p : Page) → parsed_by (Ok p) ≡ parsed_of (reading_of text) → Accepted text (parsed_by (Ok p))
+read-page text p e = some-page text (parsed_by (Ok p)) e refl
 
 -- either way: the count and the words are the reading's
 pub parsed_words : (R : Reading) (p : Parsed) → p ≡ parsed_of R → (p.count ≡ length (words_in R)) × (take p.count p.words ≡ words_in R)

@@ -6,8 +6,11 @@ use mathlib.Core.List.{List}
 use Prim.Native.Nat.{ℕ, ◌+◌, ◌<◌, ◌≤◌}
 use lib.IntN.{ℤ}
 use lib.ListN.{length}
+use Rattle.std.specs.Prelude.{Ok}
+use Rattle.std.proofs.lemmas.Result.{err_from_is_err_and}
+use Rattle.page.specs.Answer.{parsed_by}
 use Rattle.page.specs.Reader.{reading_of}
-use Rattle.page.specs.Laws.Answer.{Accepted, refused-number, some-page}
+use Rattle.page.specs.Laws.Answer.{Accepted, refused-reason, read-page}
 use Rattle.summary.specs.Summary.{page_row, cells_for}
 use Rattle.summary.specs.Answer.{agree}
 use Rattle.summary.specs.Laws.Answers.{add_none, add_full, add_short, add-other, add-good}
@@ -15,47 +18,47 @@ use Rattle.summary.specs.Laws.Rows.{joined}
 use Rattle.summary.specs.Laws.Grown.{stored_by}
 use Rattle.summary.proofs.Blocks.{page-fits, block-fits}
 use Rattle.summary.proofs.add.Goals as goal
-use Rattle.summary.proofs.add.Goals.{Else-number-ne0}
+use Rattle.summary.proofs.add.Goals.{In_ok-page}
 
 -- the text is a page
-accepted : (c : Else-number-ne0) → Accepted c.args.text.now c.parse-page.result
-accepted c = some-page c.args.text.now c.parse-page.result c.parse-page.ensures c.if-number-ne0.false
+accepted : (c : In_ok-page) → Accepted c.args.text.now (parsed_by (Ok c.in_ok-page.page))
+accepted c = read-page c.args.text.now c.in_ok-page.page c.in_ok-page.ensures
 
-pub returns-then-number-ne0 : goal.returns-then-number-ne0
-returns-then-number-ne0 c =
-    let p = c.parse-page in
-    let q = refused-number (reading_of c.args.text.now) p.result p.ensures c.if-number-ne0.true in
+pub returns-in_err-page : goal.returns-in_err-page
+returns-in_err-page c =
+    let q = refused-reason (reading_of c.args.text.now) c.in_err-page.field-0.0 c.in_err-page.ensures in
+    let e = err_from_is_err_and c.from_residual.result c.from_residual.ensures.1 in
     let s = add_none c.args.word c.args.rows.now in
-    rw q.0 record { value = c.refused.ensures ∙ rw q.1 (sym s.0); rows_after = sym s.1 }
+    rw (e.1, e.2, q.0) record { value = rw q.1 (sym s.0); rows_after = sym s.1 }
 
 pub returns-then-count-ge64 : goal.returns-then-count-ge64
 returns-then-count-ge64 c =
-    let a = accepted (goal.at.returns-then-count-ge64 c).Else-number-ne0 in
-    let s = add_full c.parse-page.result.num a.words c.args.rows.now c.args.word
+    let a = accepted (goal.at.returns-then-count-ge64 c).In_ok-page in
+    let s = add_full c.in_ok-page.page.num a.words c.args.rows.now c.args.word
     (omega (arith, c.if-count-ge64.true, a.count)) in
-    rw a.reading record { value = c.refused-then-count-ge64.ensures ∙ sym s.0; rows_after = sym s.1 }
+    rw a.reading record { value = sym s.0; rows_after = sym s.1 }
 
 pub returns-then-rows-count : goal.returns-then-rows-count
 returns-then-rows-count c =
-    let a = accepted (goal.at.returns-then-rows-count c).Else-number-ne0 in
-    let s = add_short c.parse-page.result.num a.words c.args.rows.now c.args.word
+    let a = accepted (goal.at.returns-then-rows-count c).In_ok-page in
+    let s = add_short c.in_ok-page.page.num a.words c.args.rows.now c.args.word
     (omega (arith, c.if-count-ge64.false, a.count)) (omega (arith, c.if-rows-count.true, a.count)) in
-    rw a.reading record { value = c.refused-then-rows-count.ensures ∙ sym s.0; rows_after = sym s.1 }
+    rw a.reading record { value = sym s.0; rows_after = sym s.1 }
 
 pub returns-then-not-rows_agree : goal.returns-then-not-rows_agree
 returns-then-not-rows_agree c =
-    let a = accepted (goal.at.returns-then-not-rows_agree c).Else-number-ne0 in
+    let a = accepted (goal.at.returns-then-not-rows_agree c).In_ok-page in
     let old = c.args.rows.now in
     let few : length a.words < 64 = omega (arith, c.if-count-ge64.false, a.count) in
     let room : cells_for (length a.words + 1) ≤ length old = omega (arith, c.if-rows-count.false, a.count) in
     let told : c.rows_agree.result ≡ agree a.words old = c.rows_agree.ensures ∙ ap (λ ws. agree ws old) a.front in
-    let s = add-other c.parse-page.result.num a.words old c.args.word few room
+    let s = add-other c.in_ok-page.page.num a.words old c.args.word few room
     (sym told ∙ c.if-not-rows_agree.true) in
-    rw a.reading record { value = c.refused-then-not-rows_agree.ensures ∙ sym s.0; rows_after = sym s.1 }
+    rw a.reading record { value = sym s.0; rows_after = sym s.1 }
 
 pub joined-requires : goal.joined-requires
 joined-requires c =
-    let a = accepted (goal.at.joined-requires c).Else-number-ne0 in
+    let a = accepted (goal.at.joined-requires c).In_ok-page in
     let p = page-fits a.words (omega (arith, a.count, a.count_most)) in
     let b = block-fits c.args.word in
     let page_is : c.page_row.result ≡ page_row a.words = c.page_row.ensures ∙ ap page_row a.front in
@@ -63,8 +66,8 @@ joined-requires c =
 
 pub returns : goal.returns
 returns c =
-    let a = accepted (goal.at.returns c).Else-number-ne0 in
-    let p = c.parse-page.result in
+    let a = accepted (goal.at.returns c).In_ok-page in
+    let p = c.in_ok-page.page in
     let old = c.args.rows.now in
     let few : length a.words < 64 = omega (arith, c.if-count-ge64.false, a.count) in
     let room : cells_for (length a.words + 1) ≤ length old = omega (arith, c.if-rows-count.false, a.count) in

@@ -3,54 +3,51 @@ use native.Mathlib.Omega.{arith}
 use mathlib.Core.Path.{◌≡◌, sym, ap, ◌∙◌}
 use Prim.Native.Nat.{◌<◌, ◌≤◌}
 use lib.ListN.{length}
+use Rattle.std.specs.Prelude.{Ok}
+use Rattle.std.proofs.lemmas.Result.{err_from_is_err_and}
+use Rattle.page.specs.Answer.{parsed_by}
 use Rattle.page.specs.Reader.{reading_of}
-use Rattle.page.specs.Laws.Answer.{Accepted, refused-number, some-page}
+use Rattle.page.specs.Laws.Answer.{Accepted, refused-reason, read-page}
 use Rattle.summary.specs.Summary.{cells_for}
 use Rattle.summary.specs.Answer.{agree}
 use Rattle.summary.specs.Laws.Answers.{check-none, check_short, check-other, check-good}
 use Rattle.summary.proofs.check.Goals as goal
-use Rattle.summary.proofs.check.Goals.{Else-number-ne0}
+use Rattle.summary.proofs.check.Goals.{In_ok-page}
 
 -- the text is a page
-accepted : (c : Else-number-ne0) → Accepted c.args.text.now c.parse-page.result
-accepted c = some-page c.args.text.now c.parse-page.result c.parse-page.ensures c.if-number-ne0.false
+accepted : (c : In_ok-page) → Accepted c.args.text.now (parsed_by (Ok c.in_ok-page.page))
+accepted c = read-page c.args.text.now c.in_ok-page.page c.in_ok-page.ensures
 
-pub returns-then-number-ne0 : goal.returns-then-number-ne0
-returns-then-number-ne0 c =
-    let p = c.parse-page in
-    let q = refused-number (reading_of c.args.text.now) p.result p.ensures c.if-number-ne0.true in
-    rw (q.0, q.1) (sym (check-none c.args.rows.now))
-
-pub overflow_add-count : goal.overflow_add-count
-overflow_add-count c = omega (arith, (accepted (goal.at.overflow_add-count c).Else-number-ne0).count_most)
-
-pub overflow_mul-count : goal.overflow_mul-count
-overflow_mul-count c = omega (arith, (accepted (goal.at.overflow_mul-count c).Else-number-ne0).count_most)
+pub returns-in_err-page : goal.returns-in_err-page
+returns-in_err-page c =
+    let q = refused-reason (reading_of c.args.text.now) c.in_err-page.field-0.0 c.in_err-page.ensures in
+    let e = err_from_is_err_and c.from_residual.result c.from_residual.ensures.1 in
+    rw (e.1, e.2, q.0, q.1) (sym (check-none c.args.rows.now))
 
 pub returns-then-rows-count : goal.returns-then-rows-count
 returns-then-rows-count c =
-    let a = accepted (goal.at.returns-then-rows-count c).Else-number-ne0 in
+    let a = accepted (goal.at.returns-then-rows-count c).In_ok-page in
     let rows = c.args.rows.now in
     let h : length rows < cells_for (length a.words) = omega (arith, c.if-rows-count.true, a.count) in
-    rw a.reading (sym (check_short c.parse-page.result.num a.words rows h))
+    rw a.reading (sym (check_short c.in_ok-page.page.num a.words rows h))
 
 pub rows_agree-requires : goal.rows_agree-requires
-rows_agree-requires c = ((accepted (goal.at.rows_agree-requires c).Else-number-ne0).count_most, c.if-rows-count.false)
+rows_agree-requires c = ((accepted (goal.at.rows_agree-requires c).In_ok-page).count_most, c.if-rows-count.false)
 
-pub returns-then-not-rows_agree : goal.returns-then-not-rows_agree
-returns-then-not-rows_agree c =
-    let a = accepted (goal.at.returns-then-not-rows_agree c).Else-number-ne0 in
+pub returns-else-rows_agree : goal.returns-else-rows_agree
+returns-else-rows_agree c =
+    let a = accepted (goal.at.returns-else-rows_agree c).In_ok-page in
     let rows = c.args.rows.now in
     let h : cells_for (length a.words) ≤ length rows = omega (arith, c.if-rows-count.false, a.count) in
     let t : c.rows_agree.result ≡ agree a.words rows = c.rows_agree.ensures ∙ ap (λ ws. agree ws rows) a.front in
     rw a.reading
-    (sym (check-other c.parse-page.result.num a.words rows h (sym t ∙ c.if-not-rows_agree.true)))
+    (sym (check-other c.in_ok-page.page.num a.words rows h (sym t ∙ c.if-rows_agree.false)))
 
-pub returns : goal.returns
-returns c =
-    let a = accepted (goal.at.returns c).Else-number-ne0 in
+pub returns-then-rows_agree : goal.returns-then-rows_agree
+returns-then-rows_agree c =
+    let a = accepted (goal.at.returns-then-rows_agree c).In_ok-page in
     let rows = c.args.rows.now in
     let h : cells_for (length a.words) ≤ length rows = omega (arith, c.if-rows-count.false, a.count) in
     let t : c.rows_agree.result ≡ agree a.words rows = c.rows_agree.ensures ∙ ap (λ ws. agree ws rows) a.front in
     rw a.reading
-    (sym (check-good c.parse-page.result.num a.words rows h (sym t ∙ c.if-not-rows_agree.false)))
+    (sym (check-good c.in_ok-page.page.num a.words rows h (sym t ∙ c.if-rows_agree.true)))

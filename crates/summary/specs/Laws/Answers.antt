@@ -2,9 +2,8 @@
 use Rattle.std.specs.Prelude.{◌≡◌, refl, true, false, List, ◌++◌, ℕ, ◌+◌, ◌<◌, ◌≤◌, ℤ, length, drop}
 use borrow.Author.Tests.{lt-ltb, le-ltb, le-leb, lt-leb}
 use Rattle.page.specs.Answer.{Reading, page, malformed, number_in, words_in}
-use Rattle.summary.specs.declared.Summed.{Summed}
 use Rattle.summary.specs.Summary.{summary_of, cells_for}
-use Rattle.summary.specs.Answer.{summarise_number, summarised, summarised_rows, agree, checked, add_number, added, longer, added_rows}
+use Rattle.summary.specs.Answer.{Summed, summarise_number, summarised, summarised_rows, agree, checked, add_number, added, longer, added_rows}
 
 -- ---- a call answers r and leaves `rows` where `old` stood
 abbrev pub Summarises : Reading → List ℤ → Summed → List ℤ → Type 0

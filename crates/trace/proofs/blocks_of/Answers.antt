@@ -35,8 +35,7 @@ unfolding traced_of
 returns-then-i-eq64 c =
     let l = c.loop-at in
     let a = c.args in
-    c.refused.ensures
-    ∙ ap traced_of (sym (kept_full a.text.now a.num l.samples l.at l.i l.invariant (omega arith) c.if-i-eq64.true))
+    ap traced_of (sym (kept_full a.text.now a.num l.samples l.at l.i l.invariant (omega arith) c.if-i-eq64.true))
 
 pub returns-in_default : goal.returns-in_default
 unfolding traced_of
@@ -44,8 +43,7 @@ returns-in_default c =
     let l = c.loop-at in
     let a = c.args in
     let e = sym (c.block_at.ensures ∙ ap (block_at l.i) (tail a.text.now l.at)) ∙ c.in_default.is in
-    c.refused-in_default.ensures
-    ∙ ap traced_of
+    ap traced_of
     (sym (kept-bad a.text.now a.num l.samples l.at l.i l.invariant (omega arith) (omega (arith, l.invariant.few, c.if-i-eq64.false)) e))
 
 pub overflow_add-at : goal.overflow_add-at

@@ -29,7 +29,7 @@ pub returns-in_default : goal.returns-in_default
 unfolding traced_of trace_in
 returns-in_default c =
     let e = sym c.decimal_line.ensures ∙ c.in_default.is in
-    c.refused.ensures ∙ rw e
+    rw e
 
 pub slice_bounds-blocks_of-count : goal.slice_bounds-blocks_of-count
 slice_bounds-blocks_of-count c = fits c.args.text.now _ _ (sym c.decimal_line.ensures ∙ c.in-Some.is)

@@ -1,9 +1,12 @@
 -- What the answer of `parse` tells of a text. Assumes nothing.
-use Rattle.std.specs.Prelude.{◌≡◌, refl, List, ℕ, ◌*◌, ℤ, take}
+use Rattle.std.specs.Prelude.{◌≡◌, refl, List, ℕ, ◌*◌, ℤ, take, Ok, Err}
 use Rattle.std.proofs.Common.{ap, arith, take_at}
-use Rattle.trace.specs.declared.Traced.{Traced}
+use Rattle.refusal.specs.declared.Refusal.{Refusal}
+use Rattle.refusal.specs.Refusal.{number_of}
+use Rattle.refusal.specs.Laws.{never_0}
+use Rattle.trace.specs.declared.content.Trace as content
 use Rattle.trace.specs.Trace.{Trace}
-use Rattle.trace.specs.Answer.{Reading, trace, malformed, traced_of}
+use Rattle.trace.specs.Answer.{Traced, traced_by, Reading, trace, malformed, traced_of}
 use Rattle.trace.specs.Reader.{trace_in}
 use Rattle.trace.specs.TraceRule.{only_traces}
 
@@ -37,3 +40,10 @@ some-trace text p e h = go (trace_in text) refl e
           is_trace = rw (n, k) g;
         }
     go malformed r e = absurd (omega (arith, ap (λ (q : Traced). q.number) e))
+
+-- the same of the answer itself: a reason is that of no trace, and a trace is the one that the text is
+pub refused-reason : (R : Reading) (r : Refusal) → traced_by (Err r) ≡ traced_of R → (R ≡ malformed) × (number_of r ≡ 9)
+refused-reason R r e = refused-number R (traced_by (Err r)) e (never_0 r)
+
+pub read-trace : (text : List ℕ) (t : content.Trace) → traced_by (Ok t) ≡ traced_of (trace_in text) → Accepted text (traced_by (Ok t))
+read-trace text t e = some-trace text (traced_by (Ok t)) e refl

@@ -7,8 +7,11 @@ use native.Mathlib.Omega.{arith}
 use lib.Ieee.{Float}
 use lib.IntN.{ℤ}
 use lib.ListN.{length}
+use Rattle.std.specs.Prelude.{Err}
+use Rattle.std.proofs.lemmas.Result.{err_from_is_err_and}
 use Rattle.page.specs.Form.{is_num}
-use Rattle.writer.specs.Writer.{scale_of, first_wide, first_far, words_for, refused_at}
+use Rattle.writer.specs.Writer.{scale_of, first_wide, first_far, words_for, refused_at, written_by}
+use Rattle.writer.specs.declared.Unwritten.{Unwritten}
 use Rattle.writer.specs.Laws.Answers.{bad_num, many, few_samples, wide, far}
 use Rattle.writer.proofs.Answering.{num_refused, num_kept, met, formed}
 use Rattle.writer.proofs.write.Goals as goal
@@ -41,14 +44,14 @@ pub returns-then-num : goal.returns-then-num
 returns-then-num c =
     let a = c.args in
     met a.num a.count a.samples.now a.text.now _ _
-    (bad_num a.num a.count a.samples.now a.text.now (num_refused a.num c.if-num.true)) c.refused.ensures
+    (bad_num a.num a.count a.samples.now a.text.now (num_refused a.num c.if-num.true)) (ap (λ (u : Unwritten). written_by (Err u)) c.from.ensures)
 
 pub returns-then-count-gt64 : goal.returns-then-count-gt64
 returns-then-count-gt64 c =
     let a = c.args in
     met a.num a.count a.samples.now a.text.now _ _
     (many a.num a.count a.samples.now a.text.now (num_kept a.num c.if-num.false) c.if-count-gt64.true)
-    c.refused-then-count-gt64.ensures
+    (ap (λ (u : Unwritten). written_by (Err u)) c.from-then-count-gt64.ensures)
 
 pub returns-then-samples-count : goal.returns-then-samples-count
 returns-then-samples-count c =
@@ -56,7 +59,7 @@ returns-then-samples-count c =
     met a.num a.count a.samples.now a.text.now _ _
     (few_samples a.num a.count a.samples.now a.text.now (num_kept a.num c.if-num.false)
     c.if-count-gt64.false c.if-samples-count.true)
-    c.refused-then-samples-count.ensures
+    (ap (λ (u : Unwritten). written_by (Err u)) c.from-then-samples-count.ensures)
 
 pub returns-then-wide-count : goal.returns-then-wide-count
 returns-then-wide-count c =
@@ -65,7 +68,7 @@ returns-then-wide-count c =
     let w = c.first_wide-wide.ensures in
     met a.num a.count a.samples.now a.text.now _ _
     (wide a.num a.count a.samples.now a.text.now n.good n.few n.enough (omega (arith, c.if-wide-count.true, w)))
-    (c.refused-then-wide-count.ensures ∙ ap (refused_at 2) w)
+    (ap (refused_at 2) w)
 
 pub returns-then-far-count : goal.returns-then-far-count
 returns-then-far-count c =
@@ -75,7 +78,21 @@ returns-then-far-count c =
     met a.num a.count a.samples.now a.text.now _ _
     (far a.num a.count a.samples.now a.text.now n.good n.few n.enough (narrow (goal.at.returns-then-far-count c).Else-wide-count)
     (omega (arith, c.if-far-count.true, f)))
-    (c.refused-then-far-count.ensures ∙ ap (refused_at 4) f)
+    (ap (refused_at 4) f)
+
+-- what `form` answers and leaves is what `write` does
+pub returns-in_err-length : goal.returns-in_err-length
+returns-in_err-length c =
+    let a = c.args in
+    let n = before (goal.at.returns-in_err-length c).Else-samples-count in
+    let f = far_is (goal.at.returns-in_err-length c).After-first_far-far in
+    let w = c.words_for in
+    let e = c.in_err-length.ensures in
+    let p = err_from_is_err_and c.from_residual.result c.from_residual.ensures.1 in
+    rw (p.1, p.2)
+    (formed a.num a.count a.samples.now a.text.now n.good n.few n.enough (narrow (goal.at.returns-in_err-length c).Else-wide-count)
+    (omega (arith, c.if-far-count.false, f)) w.result
+    (w.ensures ∙ ap (λ (s : Float). words_for s a.samples.now a.count) c.scale_of-scale.ensures) _ _ e.value e.out_after)
 
 pub returns : goal.returns
 returns c =
@@ -83,7 +100,7 @@ returns c =
     let n = before (goal.at.returns c).Else-samples-count in
     let f = far_is (goal.at.returns c).After-first_far-far in
     let w = c.words_for in
-    let e = c.form-page.ensures in
+    let e = c.in_ok-length.ensures in
     formed a.num a.count a.samples.now a.text.now n.good n.few n.enough (narrow (goal.at.returns c).Else-wide-count)
     (omega (arith, c.if-far-count.false, f)) w.result
     (w.ensures ∙ ap (λ (s : Float). words_for s a.samples.now a.count) c.scale_of-scale.ensures) _ _ e.value e.out_after

@@ -6,8 +6,7 @@ use borrow.Author.Tests.{lt-ltb, le-ltb, ltb-true, ltb-false}
 use Rattle.std.proofs.Math.ListN.{length}
 use Rattle.refusal.specs.Refusal.{too_large, no_scale, too_far, no_room, no_page}
 use Rattle.page.specs.Form.{is_num}
-use Rattle.writer.specs.declared.Written.{Written}
-use Rattle.writer.specs.Writer.{scale_of, first_wide, first_far, text_of, refused_at, written_of, text_after, Gives}
+use Rattle.writer.specs.Writer.{Written, scale_of, first_wide, first_far, text_of, refused_at, written_of, text_after, Gives}
 
 -- ---- from the tests to the answer
 module _ (num count : ℕ) (xs : List ℤ) (old : List ℕ) where

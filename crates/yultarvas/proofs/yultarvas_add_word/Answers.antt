@@ -1,37 +1,18 @@
 -- `yultarvas::yultarvas_add_word` meets its contract. Assumes nothing.
-use mathlib.Core.Path.{◌≡◌, sym, ap, ◌∙◌}
-use Prim.Native.Nat.{ℕ, ◌+◌}
-use borrow.Author.Tests.{eq-eqb}
+use mathlib.Core.Path.{◌∙◌}
+use Prim.Native.Nat.{◌+◌}
 use lib.ListN.{length}
 use Rattle.page.specs.Answer.{words_in}
 use Rattle.page.specs.Reader.{reading_of}
-use Rattle.summary.specs.declared.Summed.{Summed}
-use Rattle.summary.specs.Answer.{added}
-use Rattle.yultarvas.specs.Laws.Room.{left_old}
+use Rattle.summary.specs.Answer.{added, add_number}
+use Rattle.yultarvas.proofs.Counts.{summed_cell}
 use Rattle.yultarvas.proofs.yultarvas_add_word.Goals as goal
-
-pub returns-then-number-ne0 : goal.returns-then-number-ne0
-unfolding added
-returns-then-number-ne0 c =
-    let s = c.add-a in
-    let a = c.args in
-    let q = added (reading_of a.text.now) a.rows.now in
-    let n : s.result.number ≡ q.number = ap (λ (x : Summed). x.number) s.ensures.value in
-    record {
-      value = n;
-      rows_after = s.ensures.rows_after;
-      blocks_after = left_old ℕ s.result.number (length (words_in (reading_of a.text.now)) + 1) a.blocks.now c.if-number-ne0.true;
-    }
 
 pub returns : goal.returns
 unfolding added
 returns c =
-    let s = c.add-a in
     let a = c.args in
-    let q = added (reading_of a.text.now) a.rows.now in
-    let n : 0 ≡ q.number = sym c.if-number-ne0.false ∙ ap (λ (x : Summed). x.number) s.ensures.value in
-    record {
-      value = n;
-      rows_after = s.ensures.rows_after;
-      blocks_after = ap (λ (x : Summed). x.count) s.ensures.value ∙ rw (eq-eqb q.number 0 (sym n));
-    }
+    let s = c.add in
+    let R = reading_of a.text.now in
+    let p = summed_cell s.result (add_number R a.rows.now) (length (words_in R) + 1) _ a.blocks.now s.ensures.value c.put_count.ensures.value in
+    record { value = p.0; rows_after = s.ensures.rows_after; blocks_after = c.put_count.ensures.cell_after ∙ p.1 }
