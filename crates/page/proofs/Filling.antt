@@ -1,11 +1,12 @@
 -- Blocks of counts stored one behind another, and word lines likewise. Assumes nothing.
-use mathlib.Core.Path.{◌≡◌}
-use mathlib.Core.List.{List, []}
+use mathlib.Core.Path.{◌≡◌, sym, ◌∙◌}
+use mathlib.Core.List.{List, [], append_assoc}
 use Prim.Native.Nat.{ℕ, ◌+◌, ◌*◌, ◌<◌, ◌≤◌}
 use native.Mathlib.Omega.{arith}
 use lib.IntN.{ℤ}
-use lib.ListN.{length, get_or, take, drop, length-take, drop_of_length-le}
-use lib.Seq.{sets, length-take-le, get_or-take}
+use lib.ListN.{length, get_or, take, drop, drop_of_length-le}
+use borrow.Rule.Slice.PartMut.{put_mid}
+use lib.Seq.{sets, sets-eq, drop-drop}
 use Rattle.laws.specs.Laws.Lists.{drop-next, sets-append}
 use Rattle.page.specs.Page.{word_line, word_lines}
 use Rattle.page.specs.Counts.{block_counts, page_counts}
@@ -27,17 +28,20 @@ pub blocks_end : (num : ℕ) (words : List ℕ) (i : ℕ) → length words ≤ i
 unfolding page_counts
 blocks_end num words i h = rw (drop_of_length-le words h)
 
--- ---- the same of the lines of the first `count` words
-pub lines_next : (words : List ℕ) (count i : ℕ) → i < count → count ≤ length words → (l : List ℕ) (at : ℕ)
-    → sets l at (word_lines (drop i (take count words)))
-    ≡ sets (sets l at (word_line (get_or words i 0))) (at + 18) (word_lines (drop (i + 1) (take count words)))
+-- ---- the same of the lines of some words
+pub lines_next : (words : List ℕ) (i : ℕ) → i < length words → (l : List ℕ) (at : ℕ)
+    → sets l at (word_lines (drop i words))
+    ≡ sets (sets l at (word_line (get_or words i 0))) (at + 18) (word_lines (drop (i + 1) words))
 unfolding word_lines
-lines_next words count i h inside l at =
-    let n : length (take count words) ≡ count = length-take-le count words inside in
-    let w : get_or (take count words) i 0 ≡ get_or words i 0 = get_or-take count words i 0 h in
-    rw (drop-next ℕ 0 (take count words) i (omega arith), w, ← word-length (get_or words i 0))
-    (sets-append ℕ (word_line (get_or words i 0)) (word_lines (drop (i + 1) (take count words))) l at)
+lines_next words i inside l at =
+    rw (drop-next ℕ 0 words i inside, ← word-length (get_or words i 0))
+    (sets-append ℕ (word_line (get_or words i 0)) (word_lines (drop (i + 1) words)) l at)
 
-pub lines_end : (words : List ℕ) (count i : ℕ) → count ≤ i → word_lines (drop i (take count words)) ≡ []
+pub lines_end : (words : List ℕ) (i : ℕ) → length words ≤ i → word_lines (drop i words) ≡ []
 unfolding word_lines
-lines_end words count i h = rw (drop_of_length-le (take count words) {i = i} (rw length-take (omega arith)))
+lines_end words i h = rw (drop_of_length-le words h)
+
+-- ---- a part of a list written over by another list as long: what storing its elements one by one leaves
+pub put_part : (A : Type 0) (at k : ℕ) (vs l : List A) → length vs ≡ k → at + k ≤ length l → put_mid at k l vs ≡ sets l at vs
+put_part A at k vs l e h =
+    rw (drop-drop k at l, ← e) (sym (sets-eq vs l at (omega arith) ∙ append_assoc (take at l) vs (drop (at + length vs) l)))

@@ -1,12 +1,13 @@
 // What a page says.
 ghost use Rattle.std.specs.Prelude.{◌≡◌, ◌≤◌, take};
 
-// A page: its num, how many words it has, and the words, with zeros behind them.
+// A page: its num, how many words it has, and the array that they stand first in.
 #[derive(Clone, Copy)]
 pub struct Page {
     pub num: u32,
     pub count: usize,
     pub words: [u64; 64],
+    pub ghost good_num: { (1 ≤ num) × (num ≤ 65535) },
     pub ghost few: { count ≤ 64 },
 }
 

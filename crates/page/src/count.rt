@@ -3,6 +3,7 @@ ghost use Rattle.std.specs.Prelude.{◌≡◌, ◌+◌, ◌*◌, ◌^◌, ◌<�
 ghost use Rattle.std.proofs.lemmas.List.Edits.{sets};
 ghost use Rattle.page.specs.Counts.{nearest as Counts·nearest, count_by, block_counts, page_counts};
 
+use crate::Page;
 use text::magnitude;
 
 // A fraction as the nearest whole number, a half to the even one. Twice the rest is compared with the
@@ -39,20 +40,17 @@ fn put_block(out: &mut [i32], at: usize, word: u64, num: u32)
     requires { (at + 24 ≤ length out.old) × (num ≤ 65535) }
     ensures { out.new ≡ sets out.old at (block_counts num word) }
 {
-    let point = tetra::decode(word);
-    for j in 0..24usize {
-        out[at + j] = count_by(point[j], num, 256);
+    for (j, y) in tetra::decode(word).iter().enumerate() {
+        out[at + j] = count_by(*y, num, 256);
     }
 }
 
-// The counts of the first `count` words, written from the buffer's start on.
-pub(crate) fn put_blocks(out: &mut [i32], words: [u64; 64], count: usize, num: u32)
-    requires { (count ≤ 64) × (24 * count ≤ length out.old) × (num ≤ 65535) }
-    ensures { out.new ≡ sets out.old 0 (page_counts num (take count words)) }
+// The counts of a page's words, written from the buffer's start on.
+pub(crate) fn put_blocks(out: &mut [i32], page: &Page)
+    requires { 24 * page.now.count ≤ length out.old }
+    ensures { out.new ≡ sets out.old 0 (page_counts page.now.num (take page.now.count page.now.words)) }
 {
-    let mut i: usize = 0;
-    while i < count {
-        put_block(out, 24 * i, words[i], num);
-        i += 1;
+    for (i, word) in page.words().iter().enumerate() {
+        put_block(out, 24 * i, *word, page.num);
     }
 }

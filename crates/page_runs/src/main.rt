@@ -9,21 +9,6 @@ use refusal::Refusal;
 use std::io;
 use std::io::Read;
 
-// Where the text that begins at `at` ends.
-fn end_of(texts: &[u8], at: usize) -> usize
-    requires { at ≤ length texts.now }
-    ensures { (at ≤ result) × (result ≤ length texts.now) }
-{
-    let mut i = at;
-    while i < texts.len() {
-        if texts[i] == b'%' {
-            return i;
-        }
-        i += 1;
-    }
-    i
-}
-
 // The number of an answer, and its count, which is 0 on a refusal.
 fn print_read(rt: &impl Print, key: &str, read: Result<usize, Refusal>) -> io::Result<()> {
     let (number, count) = match read {
@@ -49,14 +34,9 @@ fn answer(rt: &impl Print, text: &[u8]) -> io::Result<()> {
 }
 
 // What stands behind the last % is a text too.
-fn answer_all(rt: &impl Print, texts: &[u8]) -> io::Result<()>
-    requires { length texts.now ≤ 8192 }
-{
-    let mut at: usize = 0;
-    while at <= texts.len() {
-        let end = end_of(texts, at);
-        answer(rt, &texts[at..end])?;
-        at = end + 1;
+fn answer_all(rt: &impl Print, texts: &[u8]) -> io::Result<()> {
+    for text in texts.split(|byte| *byte == b'%') {
+        answer(rt, text)?;
     }
     Ok(())
 }

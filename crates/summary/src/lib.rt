@@ -9,61 +9,53 @@ ghost use Rattle.std.specs.Prelude.{◌≡◌, ◌+◌, ◌*◌, ◌≤◌, leng
 ghost use Rattle.std.proofs.lemmas.List.Edits.{sets};
 ghost use Rattle.page.specs.Reader.{reading_of};
 ghost use Rattle.summary.specs.Summary.{summary_of, cells_for};
+ghost use Rattle.summary.specs.Cells.{cells_of};
 ghost use Rattle.refusal.specs.Refusal.{number_in};
 ghost use Rattle.summary.specs.Answer.{begin, agree, summed_by, summarised, summarised_rows, checked, added, added_rows};
 
+use page::Page;
 use refusal::Refusal;
+use row::Row;
 
 // Writes a row from `at` on.
-fn put_row(rows: &mut [i32], at: usize, row: [i32; 4])
+fn put_row(rows: &mut [i32], at: usize, row: Row)
     requires { at + 4 ≤ length rows.old }
-    ensures { rows.new ≡ sets rows.old at row }
+    ensures { rows.new ≡ sets rows.old at (cells_of row) }
 {
-    for j in 0..4usize {
-        rows[at + j] = row[j];
-    }
+    rows[at..at + 4].copy_from_slice(&row.cells());
 }
 
-// Writes the summary of the first `count` words from the start on.
-fn put_summary(rows: &mut [i32], words: [u64; 64], count: usize)
-    requires { (count ≤ 64) × (cells_for count ≤ length rows.old) }
-    ensures { rows.new ≡ sets rows.old 0 (summary_of (take count words)) }
+// Writes the summary of a page from the start on.
+fn put_summary(rows: &mut [i32], page: &Page)
+    requires { cells_for page.now.count ≤ length rows.old }
+    ensures { rows.new ≡ sets rows.old 0 (summary_of (take page.now.count page.now.words)) }
 {
-    put_row(rows, 0, row::page_row(words, count));
-    let mut i: usize = 0;
-    while i < count {
-        put_row(rows, 4 * (i + 1), row::block_row(words[i]));
-        i += 1;
+    put_row(rows, 0, row::page_row(page));
+    for (i, word) in page.words().iter().enumerate() {
+        put_row(rows, 4 * (i + 1), row::block_row(*word));
     }
 }
 
 // Whether a row stands at `at`.
-fn row_is(rows: &[i32], at: usize, row: [i32; 4]) -> bool
+fn row_is(rows: &[i32], at: usize, row: Row) -> bool
     requires { at + 4 ≤ length rows.now }
-    ensures { result ≡ begin (drop at rows.now) row }
+    ensures { result ≡ begin (drop at rows.now) (cells_of row) }
 {
-    for j in 0..4usize {
-        if rows[at + j] != row[j] {
-            return false;
-        }
-    }
-    true
+    rows[at..].starts_with(&row.cells())
 }
 
-// Whether the rows begin with the summary of the first `count` words.
-fn rows_agree(rows: &[i32], words: [u64; 64], count: usize) -> bool
-    requires { (count ≤ 64) × (cells_for count ≤ length rows.now) }
-    ensures { result ≡ agree (take count words) rows.now }
+// Whether the rows begin with the summary of a page.
+fn rows_agree(rows: &[i32], page: &Page) -> bool
+    requires { cells_for page.now.count ≤ length rows.now }
+    ensures { result ≡ agree (take page.now.count page.now.words) rows.now }
 {
-    if !row_is(rows, 0, row::page_row(words, count)) {
+    if !row_is(rows, 0, row::page_row(page)) {
         return false;
     }
-    let mut i: usize = 0;
-    while i < count {
-        if !row_is(rows, 4 * (i + 1), row::block_row(words[i])) {
+    for (i, word) in page.words().iter().enumerate() {
+        if !row_is(rows, 4 * (i + 1), row::block_row(*word)) {
             return false;
         }
-        i += 1;
     }
     true
 }
@@ -79,7 +71,7 @@ pub fn summarise(text: &[u8], rows: &mut [i32]) -> Result<usize, Refusal>
     if rows.len() < 4 * (count + 1) {
         return Err(Refusal::NoRoom);
     }
-    put_summary(rows, page.words, count);
+    put_summary(rows, &page);
     Ok(count)
 }
 
@@ -93,7 +85,7 @@ pub fn check(text: &[u8], rows: &[i32]) -> Result<(), Refusal>
     if rows.len() < 4 * (count + 1) {
         return Err(Refusal::NoRoom);
     }
-    if rows_agree(rows, page.words, count) {
+    if rows_agree(rows, &page) {
         Ok(())
     } else {
         Err(Refusal::Disagrees)
@@ -116,15 +108,11 @@ pub fn add(text: &[u8], word: u64, rows: &mut [i32]) -> Result<usize, Refusal>
     if rows.len() < 4 * (count + 2) {
         return Err(Refusal::NoRoom);
     }
-    if !rows_agree(rows, page.words, count) {
+    if !rows_agree(rows, &page) {
         return Err(Refusal::Disagrees);
     }
     let block = row::block_row(word);
-    put_row(
-        rows,
-        0,
-        row::joined(count, row::page_row(page.words, count), block),
-    );
+    put_row(rows, 0, row::joined(count, row::page_row(&page), block));
     put_row(rows, 4 * (count + 1), block);
     Ok(count + 1)
 }

@@ -145,30 +145,10 @@ fn answer(rt: &impl Print, text: &[u8]) -> io::Result<()> {
     show_adds(rt, text, rows, count)
 }
 
-// Where the text that begins at `at` ends.
-fn end_of(texts: &[u8], at: usize) -> usize
-    requires { at ≤ length texts.now }
-    ensures { (at ≤ result) × (result ≤ length texts.now) }
-{
-    let mut i = at;
-    while i < texts.len() {
-        if texts[i] == b'%' {
-            return i;
-        }
-        i += 1;
-    }
-    i
-}
-
 // What stands behind the last % is a text too.
-fn answer_all(rt: &impl Print, texts: &[u8]) -> io::Result<()>
-    requires { length texts.now ≤ 8192 }
-{
-    let mut at: usize = 0;
-    while at <= texts.len() {
-        let end = end_of(texts, at);
-        answer(rt, &texts[at..end])?;
-        at = end + 1;
+fn answer_all(rt: &impl Print, texts: &[u8]) -> io::Result<()> {
+    for text in texts.split(|byte| *byte == b'%') {
+        answer(rt, text)?;
     }
     Ok(())
 }

@@ -7,7 +7,7 @@
 
 mod content;
 
-ghost use Rattle.std.specs.Prelude.{◌≡◌, ◌+◌, ◌<◌, ◌≤◌, pos, length, replicate};
+ghost use Rattle.std.specs.Prelude.{◌≡◌, ◌+◌, ◌<◌, ◌≤◌, length};
 ghost use Rattle.std.proofs.lemmas.List.Edits.{sets};
 ghost use Rattle.trace.specs.Answer.{traced_by, traced_of};
 ghost use Rattle.trace.specs.Reader.{block_at, blocks_at, trace_in};
@@ -15,13 +15,6 @@ ghost use Rattle.trace.specs.Reader.{block_at, blocks_at, trace_in};
 pub use content::Trace;
 use refusal::Refusal;
 use text::{Read, decimal_line, list_line};
-
-// No samples yet.
-fn no_samples() -> [i32; 1536]
-    ensures { result ≡ replicate 1536 (pos 0) }
-{
-    [0i32; 1536]
-}
 
 // The two lines of the block of this index: its samples, and how many bytes both lines take.
 fn block_at(s: &[u8], index: usize) -> Read<[i32; 24]>
@@ -39,9 +32,7 @@ fn put_block(out: &mut [i32], at: usize, values: [i32; 24])
     requires { at + 24 ≤ length out.old }
     ensures { out.new ≡ sets out.old at values }
 {
-    for j in 0..24usize {
-        out[at + j] = values[j];
-    }
+    out[at..at + 24].copy_from_slice(&values);
 }
 
 // The rest of a trace behind its num line: blocks in order from 0 on, up to the text's end. The text does not
@@ -49,9 +40,10 @@ fn put_block(out: &mut [i32], at: usize, values: [i32; 24])
 fn blocks_of(text: &[u8], num: u32) -> Result<Trace, Refusal>
     ensures { traced_by result ≡ traced_of (blocks_at num 0 64 text.now) }
 {
-    let mut samples = no_samples();
-    let mut at: usize = 0;
-    let mut i: usize = 0;
+    let mut samples = [0; 1536];
+    let mut at = 0;
+    let mut i = 0;
+    // A `while`: how many blocks there are is known only where the text ends, so a `for` over indices is no plainer.
     while at < text.len() {
         if i == 64 {
             return Err(Refusal::NoPage);

@@ -3,8 +3,9 @@
 // reads and forms texts, does not rest on the sample encoder.
 #![tactic(auto)]
 
-ghost use Rattle.std.specs.Prelude.{◌≡◌, ◌*◌, ◌≤◌, length, take};
-ghost use Rattle.writer.specs.Writer.{scale_of, is_wide, is_far, first_wide, first_far, word_for, words_for};
+ghost use Rattle.std.specs.Prelude.{◌≡◌, ◌*◌, ◌<◌, ◌≤◌, List, ℤ, Bool, length, take, IfSome};
+ghost use Rattle.std.specs.Option.{unwrap_or};
+ghost use Rattle.writer.specs.Writer.{scale_of, is_wide, is_far, first_of, word_for, words_for};
 ghost use Rattle.writer.specs.Writer.{written_by, written_of, text_after};
 
 use refusal::{Refusal, TOO_FAR};
@@ -36,8 +37,8 @@ fn scale_of(num: u32) -> f64
 fn is_wide(block: [i32; 24]) -> bool
     ensures { result ≡ is_wide block }
 {
-    for j in 0..24usize {
-        if 32767 < text::magnitude(block[j]) {
+    for x in block {
+        if 32767 < text::magnitude(x) {
             return true;
         }
     }
@@ -60,34 +61,20 @@ fn word_for(samples: &[i32], i: usize, scale: f64) -> u64
     code.word
 }
 
-// The lowest block with a sample beyond 32767 in magnitude; count where there is none.
-fn first_wide(samples: &[i32], count: usize) -> usize
-    requires { count ≤ 64 }
-    ensures { result ≡ first_wide samples.now count }
+// The lowest of the first `count` blocks that passes a test.
+fn first_block<F: Fn([i32; 24]) -> bool>(samples: &[i32], count: usize, test: F) -> Option<usize>
+    requires few { count ≤ 64 }
+    requires callable { F.IsAlwaysCallable test }
+    ensures below { IfSome result (λ i. i < count) }
+    ensures value { (passes : List ℤ → Bool) → ((b : List ℤ) (r : Bool) → F.post test b r → r ≡ passes b) →
+        unwrap_or result count ≡ first_of passes samples.now 0 count }
 {
-    let mut i: usize = 0;
-    while i < count {
-        if is_wide(tetra::block(samples, 24 * i)) {
-            return i;
+    for i in 0..count {
+        if test(tetra::block(samples, 24 * i)) {
+            return Some(i);
         }
-        i += 1;
     }
-    count
-}
-
-// The lowest block that is refused with 4 at the scale; count where there is none.
-fn first_far(samples: &[i32], count: usize, scale: f64) -> usize
-    requires { count ≤ 64 }
-    ensures { result ≡ first_far scale samples.now count }
-{
-    let mut i: usize = 0;
-    while i < count {
-        if is_far(tetra::block(samples, 24 * i), scale) {
-            return i;
-        }
-        i += 1;
-    }
-    count
+    None
 }
 
 // The words of all blocks, with zeros behind them.
@@ -95,11 +82,9 @@ fn words_for(samples: &[i32], count: usize, scale: f64) -> [u64; 64]
     requires { count ≤ 64 }
     ensures { take count result ≡ words_for scale samples.now count }
 {
-    let mut words = [0u64; 64];
-    let mut i: usize = 0;
-    while i < count {
+    let mut words = [0; 64];
+    for i in 0..count {
         words[i] = word_for(samples, i, scale);
-        i += 1;
     }
     words
 }
@@ -122,16 +107,17 @@ pub fn write(num: u32, count: usize, samples: &[i32], text: &mut [u8]) -> Result
     if samples.len() < 24 * count {
         return Err(Unwritten::from(Refusal::NoRoom));
     }
-    let wide = first_wide(samples, count);
-    if wide < count {
+    if let Some(wide) = first_block(samples, count, is_wide) {
         return Err(Unwritten {
             refusal: Refusal::TooLarge,
             block: wide,
         });
     }
     let scale = scale_of(num);
-    let far = first_far(samples, count, scale);
-    if far < count {
+    let too_far = |block: [i32; 24]| -> bool
+        ensures { result ≡ is_far scale block }
+    { is_far(block, scale) };
+    if let Some(far) = first_block(samples, count, too_far) {
         return Err(Unwritten {
             refusal: Refusal::TooFar,
             block: far,

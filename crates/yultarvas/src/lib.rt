@@ -224,7 +224,7 @@ pub extern "C" fn yultarvas_parse_page(
     if words.len() < n {
         return NO_ROOM;
     }
-    slices::put_words(page.words, n, words);
+    slices::put_words(page.words(), words);
     *num = page.num;
     *count = n;
     0

@@ -37,15 +37,12 @@ pub(crate) fn put_point(y: [i32; 24], out: &mut [i32])
     }
 }
 
-// The first `count` words, written at a slice's start.
-pub(crate) fn put_words(words: [u64; 64], count: usize, out: &mut [u64])
-    requires count_bound { count ≤ 64 }
-    requires count_in_bounds { count ≤ length out.old }
-    ensures { out.new ≡ take count words ++ drop count out.old }
+// Words, written at a slice's start.
+pub(crate) fn put_words(words: &[u64], out: &mut [u64])
+    requires { length words.now ≤ length out.old }
+    ensures { out.new ≡ words.now ++ drop (length words.now) out.old }
 {
-    for j in 0..count {
-        out[j] = words[j];
-    }
+    out[..words.len()].copy_from_slice(words);
 }
 
 // A count into the lent cell, unless there is none. Answers the number.

@@ -38,10 +38,10 @@ returns-then-count-gt64 c =
     let r = on_many_words a.num a.count a.words a.out.now n.0 n.1 (omega (arith, c.if-count-gt64.true)) in
     record { value = sym r.0; out_after = sym r.1 }
 
-pub put_page-length-requires : goal.put_page-length-requires
-put_page-length-requires c =
+pub invariant_of-page : goal.invariant_of-page
+invariant_of-page c =
     let n = is_num_lem c.args.num (sym c.is_num.ensures ∙ c.if-not-is_num.false) in
-    (n.1, omega (arith, c.if-count-gt64.false), omega arith)
+    record { good_num = n; few = omega (arith, c.if-count-gt64.false) }
 
 pub returns-then-out-end : goal.returns-then-out-end
 unfolding form_text

@@ -123,10 +123,14 @@ pub words_of-requires : goal.words_of-requires
 words_of-requires c =
     let s = c.args.text.now in
     let s1 = behind s c.in-Some.a in
+    let e2 : decimal_line_at (bytes "num=") 1 65535 s1 ≡ Some (c.in-Some-decimal_line.num, c.in-Some-decimal_line.b) =
+    sym c.decimal_line.ensures ∙ c.in-Some-decimal_line.is in
     let s2 = behind s1 c.in-Some-decimal_line.b in
     let e3 : decimal_line_at (bytes "count=") 0 64 s2 ≡ Some (c.in-Some-decimal_line-2.count, c.in-Some-decimal_line-2.c) =
     sym c.decimal_line-2.ensures ∙ c.in-Some-decimal_line-2.is in
-    ((decimal-rule (bytes "count=") 0 64).only s2 _ _ e3).0.1
+    let num = ((decimal-rule (bytes "num=") 1 65535).only s1 _ _ e2).0 in
+    let count = ((decimal-rule (bytes "count=") 0 64).only s2 _ _ e3).0 in
+    (num.0, num.1, count.1)
 
 pub returns : goal.returns
 returns c =

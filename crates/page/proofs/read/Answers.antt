@@ -1,7 +1,7 @@
 -- `read` meets its contract. Assumes nothing.
 use borrow.Author.Tests.{lt-ltb}
 use native.Mathlib.Omega.{arith}
-use mathlib.Core.Path.{◌≡◌, refl, ap, ◌∙◌}
+use mathlib.Core.Path.{refl, ap, ◌∙◌}
 use Prim.Native.Nat.{ℕ, ◌*◌, ◌<◌}
 use lib.ListN.{length}
 use Rattle.std.specs.Prelude.{Ok}
@@ -30,11 +30,6 @@ returns-then-out-count c =
     let p = accepted (goal.at.returns-then-out-count c).In_ok-page in
     let h : length c.args.out.now < 24 * length p.words = omega (arith, c.if-out-count.true, p.count) in
     rw (p.reading, lt-ltb _ _ h) record { value = refl; out_after = refl }
-
-pub put_blocks-requires : goal.put_blocks-requires
-put_blocks-requires c =
-    let p = accepted (goal.at.put_blocks-requires c).In_ok-page in
-    (p.count_most, c.if-out-count.false, p.num_most)
 
 pub returns : goal.returns
 returns c =

@@ -55,7 +55,7 @@ pub loop-i-preserved : goal.loop-i-preserved
 loop-i-preserved c =
     let l = c.loop-i in
     let a = c.args in
-    kept_next a.text.now a.num a.count l.words l.at l.i _ _ l.invariant (omega arith) c.requires (word (goal.at.loop-i-preserved c).In-Some) (room (goal.at.loop-i-preserved c).In-Some)
+    kept_next a.text.now a.num a.count l.words l.at l.i _ _ l.invariant (omega arith) c.requires.2 (word (goal.at.loop-i-preserved c).In-Some) (room (goal.at.loop-i-preserved c).In-Some)
 
 pub returns-then-at-text : goal.returns-then-at-text
 unfolding parsed_of
@@ -68,4 +68,4 @@ pub returns : goal.returns
 returns c =
     let l = c.loop-i in
     let a = c.args in
-    kept_end a.text.now a.num a.count l.words l.at l.i l.invariant c.requires (omega arith) c.if-at-text.false
+    kept_end a.text.now a.num a.count l.words l.at l.i l.invariant c.requires.2 (omega arith) c.if-at-text.false

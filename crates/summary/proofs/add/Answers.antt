@@ -13,6 +13,7 @@ use Rattle.page.specs.Reader.{reading_of}
 use Rattle.page.specs.Laws.Answer.{Accepted, refused-reason, read-page}
 use Rattle.summary.specs.Summary.{page_row, cells_for}
 use Rattle.summary.specs.Answer.{agree}
+use Rattle.summary.specs.Cells.{cells_of}
 use Rattle.summary.specs.Laws.Answers.{add_none, add_full, add_short, add-other, add-good}
 use Rattle.summary.specs.Laws.Rows.{joined}
 use Rattle.summary.specs.Laws.Grown.{stored_by}
@@ -59,10 +60,10 @@ returns-then-not-rows_agree c =
 pub joined-requires : goal.joined-requires
 joined-requires c =
     let a = accepted (goal.at.joined-requires c).In_ok-page in
-    let p = page-fits a.words (omega (arith, a.count, a.count_most)) in
-    let b = block-fits c.args.word in
-    let page_is : c.page_row.result ≡ page_row a.words = c.page_row.ensures ∙ ap page_row a.front in
-    rw (page_is, c.block_row-block.ensures) (p.0, b.0, p.1, b.1)
+    let page_is : cells_of c.page_row.result ≡ page_row a.words = c.page_row.ensures ∙ ap page_row a.front in
+    let p = rw (← page_is) at (page-fits a.words (omega (arith, a.count, a.count_most))) in
+    let b = rw (← c.block_row-block.ensures) at (block-fits c.args.word) in
+    (p.0, b.0, p.1, b.1)
 
 pub returns : goal.returns
 returns c =
@@ -72,14 +73,14 @@ returns c =
     let few : length a.words < 64 = omega (arith, c.if-count-ge64.false, a.count) in
     let room : cells_for (length a.words + 1) ≤ length old = omega (arith, c.if-rows-count.false, a.count) in
     let told : c.rows_agree.result ≡ agree a.words old = c.rows_agree.ensures ∙ ap (λ ws. agree ws old) a.front in
-    let page_is : c.page_row.result ≡ page_row a.words = c.page_row.ensures ∙ ap page_row a.front in
+    let page_is : cells_of c.page_row.result ≡ page_row a.words = c.page_row.ensures ∙ ap page_row a.front in
     let t : agree a.words old ≡ true = sym told ∙ c.if-not-rows_agree.false in
     let s = add-good p.num a.words old c.args.word few room t in
     let b = c.block_row-block in
-    let g = c.joined.ensures ∙ ap (λ (l : List ℤ). joined p.count l b.result) page_is in
+    let g = c.joined.ensures ∙ ap (λ (l : List ℤ). joined p.count l (cells_of b.result)) page_is in
     rw a.reading record {
       value = ap (λ (n : ℕ). record { number = 0; count = n + 1 }) a.count ∙ sym s.0;
-      rows_after = stored_by a.words c.args.word old _ _ _ b.result p.count a.count b.ensures g
+      rows_after = stored_by a.words c.args.word old _ _ _ (cells_of b.result) p.count a.count b.ensures g
           c.put_row.ensures c.put_row-2.ensures t room
           ∙ sym s.1;
     }

@@ -31,9 +31,6 @@ returns-then-rows-count c =
     let h : length rows < cells_for (length a.words) = omega (arith, c.if-rows-count.true, a.count) in
     rw a.reading (sym (check_short c.in_ok-page.page.num a.words rows h))
 
-pub rows_agree-requires : goal.rows_agree-requires
-rows_agree-requires c = ((accepted (goal.at.rows_agree-requires c).In_ok-page).count_most, c.if-rows-count.false)
-
 pub returns-else-rows_agree : goal.returns-else-rows_agree
 returns-else-rows_agree c =
     let a = accepted (goal.at.returns-else-rows_agree c).In_ok-page in

@@ -34,10 +34,6 @@ returns-then-rows-count c =
     let s = sum_short c.in_ok-page.page.num a.words old h in
     rw a.reading record { value = sym s.0; rows_after = sym s.1 }
 
-pub put_summary-requires : goal.put_summary-requires
-put_summary-requires c =
-    ((accepted (goal.at.put_summary-requires c).In_ok-page).count_most, c.if-rows-count.false)
-
 pub returns : goal.returns
 returns c =
     let a = accepted (goal.at.returns c).In_ok-page in

@@ -1,7 +1,7 @@
 -- `blocks_of` meets its contract: at each block the text ends, or there is none, or one more is kept. Assumes nothing.
 use borrow.Author.Rules.{rules}
 use native.Mathlib.Omega.{arith}
-use mathlib.Core.Path.{◌≡◌, sym, ap, ◌∙◌}
+use mathlib.Core.Path.{◌≡◌, refl, sym, ap, ◌∙◌}
 use Prim.Native.Nat.{◌+◌, ◌≤◌}
 use lib.ListN.{length, drop, length-drop}
 use Rattle.std.specs.Prelude.{Some}
@@ -28,7 +28,7 @@ size : (c : In-Some) → length c.in-Some.block.0 ≡ 24
 size c = ((block-rule c.loop-at.i).only (drop c.loop-at.at c.args.text.now) _ _ (block c)).0.0
 
 pub loop-at-init : goal.loop-at-init
-loop-at-init c = kept-none _ _ _ c.no_samples-samples.ensures
+loop-at-init c = kept-none _ _ _ refl
 
 pub returns-then-i-eq64 : goal.returns-then-i-eq64
 unfolding traced_of

@@ -13,33 +13,33 @@ use Rattle.writer.proofs.is_wide.Goals as goal
 use Rattle.writer.proofs.is_wide.Goals.{After-magnitude}
 
 -- the magnitude of sample j
-magnitude_is : (c : After-magnitude) → c.magnitude.result ≡ nat_abs (get_or c.args.block c.loop-j.j (pos 0))
+magnitude_is : (c : After-magnitude) → c.magnitude.result ≡ nat_abs (get_or c.args.block c.loop-x.x-index (pos 0))
 magnitude_is c =
-    let z = get_or c.args.block c.loop-j.j (pos 0) in
+    let z = get_or c.args.block c.loop-x.x-index (pos 0) in
     let f : SFits w32 z = search rules in
     c.magnitude.ensures.0 ∙ ap nat_abs (to_z-of_z f)
 
 pub returns-then-magnitude-gt32767 : goal.returns-then-magnitude-gt32767
 returns-then-magnitude-gt32767 c =
     let block = c.args.block in
-    let at = c.loop-j in
+    let at = c.loop-x in
     let n : length block ≡ 24 = search rules in
     let m = magnitude_is (goal.at.returns-then-magnitude-gt32767 c).After-magnitude in
-    let e = lt-ltb 32767 (nat_abs (get_or block at.j (pos 0))) (omega (arith, c.if-magnitude-gt32767.true)) in
-    sym (at.invariant.1 ∙ wide_here block at.j (omega (arith, c.loop-j-test.true)) e)
+    let e = lt-ltb 32767 (nat_abs (get_or block at.x-index (pos 0))) (omega (arith, c.if-magnitude-gt32767.true)) in
+    sym (at.invariant ∙ wide_here block at.x-index (omega (arith, c.loop-x-test.true)) e)
 
-pub loop-j-preserved : goal.loop-j-preserved
-loop-j-preserved c =
+pub loop-x-preserved : goal.loop-x-preserved
+loop-x-preserved c =
     let block = c.args.block in
-    let at = c.loop-j in
+    let at = c.loop-x in
     let n : length block ≡ 24 = search rules in
-    let m = magnitude_is (goal.at.loop-j-preserved c).After-magnitude in
-    let e = le-ltb 32767 (nat_abs (get_or block at.j (pos 0))) (omega (arith, c.if-magnitude-gt32767.false)) in
-    (omega arith, at.invariant.1 ∙ wide-next block at.j (omega (arith, c.loop-j-test.true)) e)
+    let m = magnitude_is (goal.at.loop-x-preserved c).After-magnitude in
+    let e = le-ltb 32767 (nat_abs (get_or block at.x-index (pos 0))) (omega (arith, c.if-magnitude-gt32767.false)) in
+    at.invariant ∙ wide-next block at.x-index (omega (arith, c.loop-x-test.true)) e
 
 pub returns : goal.returns
 returns c =
     let block = c.args.block in
-    let at = c.loop-j in
+    let at = c.loop-x in
     let n : length block ≡ 24 = search rules in
-    sym (at.invariant.1 ∙ wide_done block at.j (omega arith))
+    sym (at.invariant ∙ wide_done block at.x-index (omega arith))

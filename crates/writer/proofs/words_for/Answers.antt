@@ -7,4 +7,4 @@ pub returns : goal.returns
 returns c =
     let l = c.loop-i in
     let a = c.args in
-    front _ a.count l.words (omega (arith, l.invariant.1.long)) (λ k h. l.invariant.1.held k (omega arith))
+    front _ a.count l.words (omega (arith, l.invariant.long)) (λ k h. l.invariant.held k (omega arith))

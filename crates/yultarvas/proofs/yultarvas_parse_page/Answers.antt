@@ -1,9 +1,10 @@
 -- `yultarvas::yultarvas_parse_page` meets its contract. Assumes nothing.
-use mathlib.Core.Path.{◌≡◌, refl, sym, ◌∙◌}
-use mathlib.Core.List.{List}
+use native.Mathlib.Omega.{arith}
+use mathlib.Core.Path.{◌≡◌, refl, ap, sym, ◌∙◌}
+use mathlib.Core.List.{List, ◌++◌}
 use Prim.Native.Nat.{ℕ}
 use borrow.Author.Tests.{lt-ltb, le-ltb}
-use lib.ListN.{length}
+use lib.ListN.{length, drop, length-take}
 use Rattle.std.specs.Prelude.{Ok, Err}
 use Rattle.refusal.specs.Laws.{never_0}
 use Rattle.page.specs.Reader.{reading_of}
@@ -42,10 +43,9 @@ returns-then-words-n c =
     }
 
 pub put_words-requires : goal.put_words-requires
-put_words-requires c = record {
-  count_bound = (held (goal.at.put_words-requires c).In-Ok).few;
-  count_in_bounds = c.if-words-n.false;
-}
+put_words-requires c =
+    let page = c.in-Ok.page in
+    omega (arith, ap length c.words.ensures, length-take page.count page.words, c.if-words-n.false)
 
 pub returns : goal.returns
 returns c =
@@ -53,6 +53,6 @@ returns c =
     let q = held (goal.at.returns c).In-Ok in record {
       value = rw (le-ltb _ _ c.if-words-n.false) at (q.number a.words.now);
       num_after = q.num;
-      words_after = c.put_words.ensures ∙ rw (q.front, q.count);
+      words_after = c.put_words.ensures ∙ ap (λ (l : List ℕ). l ++ drop (length l) a.words.now) (c.words.ensures ∙ q.front);
       count_after = q.count;
     }

@@ -3,11 +3,11 @@ use mathlib.Core.Path.{◌≡◌, sym, ap, ◌∙◌}
 use native.Mathlib.Omega.{arith}
 use Prim.Native.Nat.{ℕ, ◌<◌, ◌≤◌}
 use lib.ListN.{length}
-use Rattle.std.specs.Prelude.{Ok, Err}
+use Rattle.std.specs.Prelude.{Err}
 use Rattle.refusal.specs.Refusal.{number_of}
 use Rattle.refusal.specs.Laws.{never_0}
 use Rattle.writer.specs.Writer.{Written, written_by, written_of}
-use Rattle.writer.specs.WriterRule.{block-lt, no_other-block}
+use Rattle.writer.specs.WriterRule.{block-lt}
 use Rattle.writer.specs.Laws.Answers.{number-le}
 use Rattle.yultarvas.specs.Laws.Room.{left_new, left_old}
 use Rattle.yultarvas.proofs.yultarvas_write_page.Goals as goal

@@ -19,11 +19,11 @@ use Rattle.page.proofs.count.put_block.Goals as goal
 use Rattle.page.proofs.count.put_block.Goals.{In-loop-j}
 
 -- the coordinate at j is one of the word's point
-coordinate : (c : In-loop-j) → nat_abs (get_or c.decode-point.result c.loop-j.j (pos 0)) ≤ 10
-coordinate c = rw c.decode-point.ensures (coordinate-small c.args.word c.loop-j.j (omega arith))
+coordinate : (c : In-loop-j) → nat_abs (get_or c.decode.result c.loop-j.j (pos 0)) ≤ 10
+coordinate c = rw c.decode.ensures (coordinate-small c.args.word c.loop-j.j (omega arith))
 
 back : (c : In-loop-j)
-    → let y = get_or c.decode-point.result c.loop-j.j (pos 0) in
+    → let y = get_or c.decode.result c.loop-j.j (pos 0) in
     to_z w32 (of_z w32 y) ≡ y
 back c = to_z-of_z (small-fits _ (coordinate c))
 
@@ -37,7 +37,7 @@ count_by-requires c = (
 pub loop-j-preserved : goal.loop-j-preserved
 loop-j-preserved c =
     let l = c.loop-j in
-    let p = c.decode-point.result in
+    let p = c.decode.result in
     let a = c.args in
     let n : length p ≡ 24 = search rules in
     let f : SFits w32 c.count_by.result = search rules in
@@ -46,18 +46,17 @@ loop-j-preserved c =
     let e : to_z w32 (of_z w32 c.count_by.result) ≡ get_or vs l.j (count_of a.num (pos 0)) =
     to_z-of_z f ∙ c.count_by.ensures ∙ ap (count_of a.num) (back (goal.at.loop-j-preserved c).In-loop-j)
     ∙ sym (get_or-map (count_of a.num) p l.j (pos 0)) in (
-      omega arith,
-      simp length-set l.invariant.1,
-      rw e (sym (store_next ℤ (count_of a.num (pos 0)) vs l.out a.at l.j (omega arith)) ∙ l.invariant.2),
+      simp length-set l.invariant.0,
+      rw e (sym (store_next ℤ (count_of a.num (pos 0)) vs l.out a.at l.j (omega arith)) ∙ l.invariant.1),
     )
 
 pub returns : goal.returns
 unfolding block_counts
 returns c =
     let l = c.loop-j in
-    let p = c.decode-point.result in
+    let p = c.decode.result in
     let a = c.args in
     let n : length p ≡ 24 = search rules in
     let m : length (map (count_of a.num) p) ≡ 24 = length-map p (count_of a.num) ∙ n in
-    sym (store_end ℤ (map (count_of a.num) p) l.out a.at l.j (omega arith)) ∙ l.invariant.2
-    ∙ ap (λ (q : List ℤ). sets a.out.now a.at (map (count_of a.num) q)) c.decode-point.ensures
+    sym (store_end ℤ (map (count_of a.num) p) l.out a.at l.j (omega arith)) ∙ l.invariant.1
+    ∙ ap (λ (q : List ℤ). sets a.out.now a.at (map (count_of a.num) q)) c.decode.ensures

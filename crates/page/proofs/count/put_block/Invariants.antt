@@ -2,7 +2,7 @@
 -- Assumes nothing.
 use mathlib.Core.Path.{◌≡◌}
 use mathlib.Core.List.{map}
-use Prim.Native.Nat.{◌+◌, ◌-◌, ◌≤◌}
+use Prim.Native.Nat.{◌+◌}
 use lib.ListN.{length, drop}
 use lib.Seq.{sets}
 use Rattle.page.specs.Counts.{count_of}
@@ -10,8 +10,5 @@ use Rattle.page.proofs.count.put_block.Given as goal
 
 abbrev pub invariant-loop-j : goal.invariant-loop-j
 invariant-loop-j l =
-    (l.j ≤ 24) × (length l.out ≡ length l.initial.out)
-    × (sets l.out (l.at + l.j) (drop l.j (map (count_of l.num) l.point)) ≡ sets l.initial.out l.at (map (count_of l.num) l.point))
-
-abbrev pub decreases-loop-j : goal.decreases-loop-j
-decreases-loop-j l = 24 - l.j
+    (length l.out ≡ length l.initial.out)
+    × (sets l.out (l.at + l.j) (drop l.j (map (count_of l.num) l.y-items)) ≡ sets l.initial.out l.at (map (count_of l.num) l.y-items))

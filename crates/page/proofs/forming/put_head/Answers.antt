@@ -13,8 +13,8 @@ pub returns : goal.returns
 unfolding head_lines format_line num_line count_line
 returns c =
     let a = c.args in
-    let g0 = grown-none a.out.now 0 37 c.requires.2 in
+    let g0 = grown-none a.out.now 0 37 c.requires in
     let g1 = grown-text g0 format_line (lit≤ tt) c.put-a.ensures.value c.put-a.ensures.out_after in
-    let g2 = grown-line g1 (bytes "num=") 4 a.num (omega (arith, c.requires.0)) (lit≤ tt) c.put_line-b.ensures.value c.put_line-b.ensures.out_after in
-    let g3 = grown-line g2 (bytes "count=") 1 a.count (omega (arith, c.requires.1)) (lit≤ tt) c.put_line.ensures.value c.put_line.ensures.out_after in
-    grown_front g3 (head_lines a.num a.count) (append_assoc format_line (num_line a.num) (count_line a.count))
+    let g2 = grown-line g1 (bytes "num=") 4 a.page.now.num (omega (arith, c.args.page.now.good_num.1)) (lit≤ tt) c.put_line-b.ensures.value c.put_line-b.ensures.out_after in
+    let g3 = grown-line g2 (bytes "count=") 1 a.page.now.count (omega (arith, c.args.page.now.few)) (lit≤ tt) c.put_line.ensures.value c.put_line.ensures.out_after in
+    grown_front g3 (head_lines a.page.now.num a.page.now.count) (append_assoc format_line (num_line a.page.now.num) (count_line a.page.now.count))
