@@ -18,7 +18,7 @@ use Rattle.score.specs.Scale.{choice_of, first_scale, second_scale}
 use Rattle.score.specs.declared.Choice.{Choice}
 use Rattle.score.specs.declared.Choice.TheVariants.{Zero, Scale, Divide}
 use Rattle.score.specs.Laws.Quotient.{Keeps, KeepsBoth, choice-keeps, scale-chosen}
-use Rattle.search.specs.declared.Winner.{Winner}
+use Rattle.search.specs.Parity.{Winner}
 use Rattle.search.specs.Block.{winner_for, point_from}
 use Rattle.nearest.specs.OnPoint.{origin}
 use Rattle.members.specs.Accepted.{Accepted}

@@ -9,9 +9,8 @@ use Rattle.std.specs.Float.{binary64}
 use Rattle.std.specs.Float.Ieee.{fits}
 use Rattle.float.specs.Calls.{quotients_of}
 use Rattle.score.specs.Samples.{AllFit, scale_number}
-use Rattle.search.specs.declared.Winner.{Winner}
 use Rattle.search.specs.Tables.{tables}
-use Rattle.search.specs.Parity.{both_parities, even_parities}
+use Rattle.search.specs.Parity.{Winner, both_parities, even_parities}
 use Rattle.search.specs.Block.{rule_of, targets_of, winner_for}
 use Rattle.search.proofs.Parity.{even_stays}
 use Rattle.members.proofs.Members.{parity_is}

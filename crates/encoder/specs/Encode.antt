@@ -15,8 +15,7 @@ use Rattle.score.specs.Choice.{chosen, choice_number}
 use Rattle.score.specs.declared.Choice.{Choice}
 use Rattle.score.specs.declared.Choice.TheVariants.{Zero, Scale, Divide}
 use Rattle.score.specs.declared.Chosen.{Chosen}
-use Rattle.search.specs.declared.Winner.{Winner}
-use Rattle.search.specs.Parity.{both_parities}
+use Rattle.search.specs.Parity.{Winner, both_parities}
 use Rattle.search.specs.Block.{point_from, winner_for}
 use Rattle.encoder.specs.declared.Code.{Code}
 

@@ -9,14 +9,14 @@ ghost use Rattle.std.specs.Float.{nan};
 ghost use Rattle.laws.specs.Words.{tab};
 ghost use Rattle.rank.specs.Coord.{val_of};
 ghost use Rattle.search.specs.Entries.{section_at};
-ghost use Rattle.search.specs.Parity.{parities_of};
+ghost use Rattle.search.specs.Parity.{parities_of, winner_by};
 ghost use Rattle.search.specs.Block.{trio_of, winner_at, point_from, winner_for};
 ghost use Rattle.encoder.specs.Encode.{zero_code, code_of, code_for, encode_at_over, encode_at_scale};
 ghost use Rattle.encoder.specs.Encode.{higher, two_scales, scaled_back, code_at, encode_over, encode_with, encode_samples};
 ghost use Rattle.encoder.specs.Encode.{chosen_over, encode_chosen_with, encode_chosen};
 
 use score::Choice;
-use search::Winner;
+use search::{Targets, Winner};
 
 // A block's code: its word (gain 0), the point in natural order, and the score. The number is 0; where it is not, the call was refused, and
 // the rest is word 0, 24 zeros, score +0.0.
@@ -87,7 +87,7 @@ fn coordinate(p: u32, c: u8, key: u32, j: u32) -> i32
 // Coordinate j in trio order.
 fn in_trio(w: Winner, j: u32) -> i32
     requires { j < 24 }
-    ensures { result ≡ winner_at w j }
+    ensures { result ≡ winner_at (winner_by w) j }
 {
     if j < 8 {
         return coordinate(w.p, w.s1.byte, w.s1.key, j);
@@ -100,7 +100,7 @@ fn in_trio(w: Winner, j: u32) -> i32
 
 // The point in natural order.
 fn point_of(w: Winner) -> [i32; 24]
-    ensures { result ≡ point_from w }
+    ensures { result ≡ point_from (winner_by w) }
 {
     let mut out = [0i32; 24];
     for i in 0..24usize {
@@ -125,7 +125,7 @@ fn zero_code(number: u32, score: f64) -> Code
 
 // The point of a winner, its word and its score.
 fn code_of(samples: [f64; 24], w: Winner) -> Code
-    ensures { result ≡ code_of samples w }
+    ensures { result ≡ code_of samples (winner_by w) }
 {
     let point = point_of(w);
     let e = tetra::encode(point);
@@ -140,10 +140,15 @@ fn code_of(samples: [f64; 24], w: Winner) -> Code
 
 // The winner at a target of 24 numbers. Here and below, `odd` says whether odd points are searched too.
 fn winner_for(t: [f64; 24], setting: u32, odd: bool) -> Winner
-    ensures { result ≡ winner_for (parities_of odd) setting t }
+    ensures { winner_by result ≡ winner_for (parities_of odd) setting t }
 {
     let u = trio(t);
-    parity::search(section(u, 0), section(u, 8), section(u, 16), setting, odd)
+    let targets = Targets {
+        t1: section(u, 0),
+        t2: section(u, 8),
+        t3: section(u, 16),
+    };
+    parity::search(&targets, setting, odd)
 }
 
 // The code at a scale, with no refusal.

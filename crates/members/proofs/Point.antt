@@ -21,7 +21,7 @@ use Rattle.tetra.specs.Laws.Orders.{natural-length, natural-at, trio-natural, pa
 use Rattle.tetra.specs.Laws.Point.{ranks-part, below-append, point_at_lem}
 use Rattle.tetra.specs.Laws.Word.{sum_classes}
 use Rattle.search.specs.declared.Entry.{Entry}
-use Rattle.search.specs.declared.Winner.{Winner}
+use Rattle.search.specs.Parity.{Winner}
 use Rattle.search.specs.Record.{bit_at}
 use Rattle.search.specs.Tables.{tables, class_of}
 use Rattle.search.specs.Entries.{section_at}

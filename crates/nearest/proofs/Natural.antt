@@ -12,10 +12,9 @@ use Rattle.trellis.specs.Laws.Trio.{trio-fits}
 use Rattle.tetra.specs.Lattice.{trio, LatticePoint, HasWord}
 use Rattle.tetra.specs.Tetra.{natural}
 use Rattle.tetra.specs.Laws.Orders.{trio-at, natural-length, trio-natural}
-use Rattle.search.specs.declared.Winner.{Winner}
 use Rattle.search.specs.Tables.{tables}
 use Rattle.search.specs.Entries.{Rule}
-use Rattle.search.specs.Parity.{search}
+use Rattle.search.specs.Parity.{Winner, search}
 use Rattle.search.specs.Block.{coordinate, trio_of, targets_of, winner_at, place, point_from}
 use Rattle.nearest.specs.Laws.Forms.{sum_to, RuleOk, at24}
 use Rattle.nearest.specs.Laws.Sums.{sum_same, sum_front}

@@ -15,7 +15,8 @@ use Rattle.float.specs.Laws.Near.{near-more}
 use Rattle.laws.specs.Laws.Tests.{upto, below, split3}
 use Rattle.search.specs.Tables.{Tables, class_of, end_byte, fallback_at}
 use Rattle.search.specs.Entries.{Rule, rank_at, section_at, fallback, end_start, mid_start}
-use Rattle.search.specs.Parity.{Targets, search}
+use Rattle.search.specs.declared.Targets.{Targets}
+use Rattle.search.specs.Parity.{search}
 use Rattle.search.specs.declared.Coord.{Coord}
 use Rattle.search.specs.Record.{coord_of, shrinks, row}
 use Rattle.nearest.specs.Laws.Keys.{k_at, val_is, nib-lt}

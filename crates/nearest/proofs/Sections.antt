@@ -8,9 +8,9 @@ use Rattle.std.specs.Float.Ieee.{fits}
 use Rattle.std.specs.Float.Ieee.Scale.{finite}
 use Rattle.search.specs.Tables.{Tables, class_of}
 use Rattle.search.specs.Entries.{Rule}
-use Rattle.search.specs.Parity.{Targets, search}
+use Rattle.search.specs.declared.Targets.{Targets}
+use Rattle.search.specs.Parity.{Winner, search}
 use Rattle.search.specs.declared.Closed.{Closed}
-use Rattle.search.specs.declared.Winner.{Winner}
 use Rattle.search.specs.Block.{sections, winner_at}
 use Rattle.nearest.specs.Laws.Forms.{RowOf, RuleOk, at24}
 use Rattle.nearest.specs.Laws.Lattice.{Sec, Point, Same, dist8, Margin, M, own1, own2, own3}

@@ -17,7 +17,8 @@ use Rattle.search.specs.Tables.{tables}
 use Rattle.search.specs.Entries.{Rule}
 use Rattle.search.specs.declared.Sides.{Sides}
 use Rattle.search.specs.Join.{ent_at, no_entry, join, all_exact}
-use Rattle.search.specs.Parity.{Targets, Seed, solved1, solved2, solved3, starts, lower, seeded, seed_by, seed_to, bounds_to, closed, closing, parity}
+use Rattle.search.specs.declared.Targets.{Targets}
+use Rattle.search.specs.Parity.{Seed, solved1, solved2, solved3, starts, lower, seeded, seed_by, seed_to, bounds_to, closed, closing, parity}
 use Rattle.join.specs.Laws.{in_join}
 use Rattle.resolve.specs.Inner.Flat.{closed_with}
 use Rattle.parity.specs.declared.Head.{Head}

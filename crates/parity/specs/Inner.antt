@@ -5,14 +5,25 @@ use Rattle.laws.specs.Words.{tab}
 use Rattle.search.specs.declared.Entry.{Entry}
 use Rattle.search.specs.declared.Way.{Way}
 use Rattle.search.specs.declared.Bounds.{Bounds}
-use Rattle.search.specs.declared.Winner.{Winner}
 use Rattle.search.specs.Tables.{tables}
 use Rattle.search.specs.Entries.{end_start, mid_start}
 use Rattle.search.specs.declared.Sides.{Sides}
 use Rattle.search.specs.Join.{join, all_exact}
-use Rattle.search.specs.Parity.{fixed, lower, bounds_to, winner_of}
+use Rattle.search.specs.Parity.{Winner, fixed, lower, bounds_to, winner_of}
+use Rattle.trellis.specs.Trellis.{middle_sets}
+use Rattle.coord.specs.Inner.Rows.{table_of, rows_of}
+use Rattle.resolve.specs.declared.End.{End}
+use Rattle.resolve.specs.declared.Middle.{Middle}
 use Rattle.resolve.specs.Inner.Flat.{closed_with}
+use Rattle.resolve.specs.Laws.{bytes_of, fallbacks_of}
 use Rattle.parity.specs.declared.Head.{Head}
+
+-- ---- the sections of the targets ts at parity p, where the rule runs m shrinks
+abbrev pub end_of : ℕ → List Float → ℕ → ℕ → End
+end_of kind ts p m = record { rows = rows_of (table_of ts p); bytes = bytes_of kind; fall = fallbacks_of ts kind p; shrinks = m }
+
+abbrev pub middle_of : List Float → ℕ → ℕ → Middle
+middle_of ts p m = record { rows = rows_of (table_of ts p); sets = middle_sets; shrinks = m }
 
 -- ---- the entries of a section as they start
 unfoldable pub first_start : List Float → ℕ → List Entry
@@ -40,17 +51,12 @@ abbrev pub Resolved : Type 0
 Resolved = ℕ → Entry
 
 -- the entries of a path resolved where they are not exact
+abbrev pub once_sides : Resolved → Resolved → Resolved → Sides → Head → Sides
+once_sides r1 r2 r3 s h =
+    record { e1 = fixed s.e1 h.i1 (r1 h.i1); e2 = fixed s.e2 h.i2 (r2 h.i2); e3 = fixed s.e3 h.i3 (r3 h.i3) }
+
 abbrev pub once_by : Resolved → Resolved → Resolved → Kept → Head → Kept
-once_by r1 r2 r3 k h =
-    record {
-      sides =
-          record {
-            e1 = fixed k.sides.e1 h.i1 (r1 h.i1);
-            e2 = fixed k.sides.e2 h.i2 (r2 h.i2);
-            e3 = fixed k.sides.e3 h.i3 (r3 h.i3);
-          };
-      u = cond h.done (lower k.u h.cost) k.u;
-    }
+once_by r1 r2 r3 k h = record { sides = once_sides r1 r2 r3 k.sides h; u = cond h.done (lower k.u h.cost) k.u }
 
 -- a path that is all exact is the last one
 abbrev pub again_by : Resolved → Resolved → Resolved → ℕ → Head → Kept → Kept

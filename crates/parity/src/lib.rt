@@ -1,27 +1,26 @@
-// One block parity, and the best of both at one scale: `solve_parity` and the loop of `encode_at_scale` of the Rust's encoder.rs. The rows of a
-// section (crate coord) are made once for a parity and lent.
+// One block parity, and the best of both at one scale: `solve_parity` and the loop of `encode_at_scale` of the Rust's encoder.rs.
 // The idea: every entry starts from its bases, which are cheap. At most two seed joins look for a real path;
 // one pass over all paths says which entries may lie on a cheaper one, and only those are resolved; then the
 // last join. Parity 1 has to beat the cost that parity 0 has found. docs/ALGORITHM.md says why nothing is
 // lost.
 #![tactic(auto)]
 
-ghost use Rattle.std.specs.Prelude.{◌≡◌, cond, ℕ, ◌%◌, get_or};
-ghost use Rattle.laws.specs.Words.{tab};
-ghost use Rattle.trellis.specs.Tables.{prefixes, suffixes};
-ghost use Rattle.trellis.specs.Trellis.{pairs_of, middle_sets};
+ghost use Rattle.std.specs.Prelude.{◌≡◌, cond, ◌%◌, ltb};
+ghost use Rattle.coord.specs.Inner.Rows.{table_of, rows_of};
+ghost use Rattle.trellis.specs.Trellis.{middle_sets};
 ghost use Rattle.search.specs.Tables.{tables};
 ghost use Rattle.search.specs.Join.{join};
 ghost use Rattle.search.specs.Parity as def;
+ghost use Rattle.search.specs.Parity.{winner_by};
 ghost use Rattle.search.specs.Block.{rule_of};
-ghost use Rattle.solve.specs.Inner.Flat.{solve_in, pair_in};
-ghost use Rattle.resolve.specs.Inner.Flat.{end_with, mid_with, in_a_row, start_with, mid_start_with};
-ghost use Rattle.parity.specs.Inner.{head_of, pass_of, mid_starts, last_start};
+ghost use Rattle.resolve.specs.Inner.Flat.{end_full, mid_full};
+ghost use Rattle.resolve.specs.Laws.{fallbacks_of};
+ghost use Rattle.parity.specs.Inner.{head_of, once_sides, closed_by, pass_of};
 
-use coord::Rows;
-use search::{Entry, Sides, Winner};
+use resolve::{End, Middle};
+use search::{Bounds, Entry, Sides, Targets, Winner};
 
-// The best path of a join, and whether all three of its entries are exact.
+// The best path of a join, and whether all three of its entries are exact. It is looked at in both cases, so it is no Option.
 #[derive(Clone, Copy)]
 struct Head {
     cost: f64,
@@ -31,61 +30,44 @@ struct Head {
     done: bool,
 }
 
-// ---- the setting: how many shrinks the ends and the middle run
-fn ends_of(setting: u32) -> usize
-    ensures { result ≡ (rule_of setting).ends }
+// The three sections of a block at one parity. They are lent, since each is ten kilobytes.
+#[derive(Clone, Copy)]
+struct Block<'a> {
+    first: &'a End,
+    middle: &'a Middle,
+    last: &'a End,
+}
+
+// ---- the sections
+// How many shrinks a setting runs where there are `most`.
+fn shrinks(setting: u32, most: usize) -> usize
+    ensures { result ≡ cond (ltb setting most) setting most }
 {
     let n = setting as usize;
-    if n < search::END_SHRINKS {
-        n
-    } else {
-        search::END_SHRINKS
+    if n < most { n } else { most }
+}
+
+// An end: the first where kind is 0, the last where it is 1.
+fn end_of(kind: u32, p: u32, t: [f64; 8], bytes: [[u8; 2]; 64], shrinks: usize) -> End
+    ensures { result ≡ record { rows = rows_of (table_of t (p % 2)); bytes = bytes; fall = fallbacks_of t (kind % 2) (p % 2); shrinks = shrinks } }
+{
+    End {
+        rows: coord::rows_of(t, p),
+        bytes,
+        fall: fallback_entries::fallbacks(kind, p, t),
+        shrinks,
     }
 }
 
-fn mids_of(setting: u32) -> usize
-    ensures { result ≡ (rule_of setting).mids }
+// The middle.
+fn middle_of(p: u32, t: [f64; 8], shrinks: usize) -> Middle
+    ensures { result ≡ record { rows = rows_of (table_of t (p % 2)); sets = middle_sets; shrinks = shrinks } }
 {
-    let n = setting as usize;
-    if n < search::SHRINKS {
-        n
-    } else {
-        search::SHRINKS
+    Middle {
+        rows: coord::rows_of(t, p),
+        sets: trellis::middle_sets(),
+        shrinks,
     }
-}
-
-// ---- the entries as they start
-// The bytes of all states in a row, two to a state.
-fn in_a_row(bytes: &[[u8; 2]; 64]) -> [u8; 128]
-    ensures { result ≡ in_a_row bytes.now }
-{
-    let mut out = [0u8; 128];
-    for i in 0..128usize {
-        out[i] = bytes[i / 2][i % 2];
-    }
-    out
-}
-
-fn end_starts(rows: &Rows, bytes: &[[u8; 2]; 64], fall: [Entry; 128]) -> [Entry; 128]
-    ensures { result ≡ tab (start_with
-        (tab (λ (j : ℕ). pair_in rows.now (get_or (in_a_row bytes.now) j 0) tables.class0 tables.class1) 128)
-        bytes.now fall) 128 }
-{
-    let b0 = resolve::class_bound(0);
-    let b1 = resolve::class_bound(1);
-    let row = in_a_row(bytes);
-    let q = solve::pairs(rows, &row, b0, b1);
-    resolve::ends(q, bytes, fall)
-}
-
-fn mid_starts(rows: &Rows, sets: &[u8; 128]) -> [Entry; 256]
-    ensures { result ≡ tab (mid_start_with
-        (tab (λ (j : ℕ). pair_in rows.now (get_or sets.now j 0) tables.mixed tables.mixed) 128)
-        sets.now) 256 }
-{
-    let b = resolve::mixed_bound();
-    let q = solve::pairs(rows, sets, b, b);
-    resolve::mids(q, sets)
 }
 
 // ---- the seed joins
@@ -123,13 +105,33 @@ fn known(h: Head, u: f64) -> f64
     u
 }
 
-// ---- the winner of a parity: the best path through the entries
+// The entries of a path, resolved where they are not exact.
+fn resolve_path(block: &Block, sides: &mut Sides, h: Head)
+    ensures { sides.new ≡ once_sides (end_full block.now.first.now) (mid_full block.now.middle.now) (end_full block.now.last.now) sides.old h }
+{
+    resolve::seed(block.first, &mut sides.e1, h.i1);
+    resolve::seed(block.middle, &mut sides.e2, h.i2);
+    resolve::seed(block.last, &mut sides.e3, h.i3);
+}
+
+// ---- the bounds
+// The entries that the bounds leave, resolved; the rest are dropped.
+#[tactic(auto, unfolding(crate::specs::Inner::closed_by))]
+fn close(block: &Block, sides: &mut Sides, b: &Bounds)
+    ensures { sides.new ≡ closed_by (end_full block.now.first.now) (mid_full block.now.middle.now) (end_full block.now.last.now) sides.old b.now }
+{
+    resolve::close(block.first, &mut sides.e1, &b.b1, b.u);
+    resolve::close(block.middle, &mut sides.e2, &b.b2, b.u);
+    resolve::close(block.last, &mut sides.e3, &b.b3, b.u);
+}
+
+// ---- one parity
+// The best path through the entries.
 fn winner(p: u32, sides: &Sides) -> Winner
-    ensures { result ≡ def.winner_of (p % 2) sides.now (join tables (p % 2) sides.now) }
+    ensures { winner_by result ≡ def.winner_of (p % 2) sides.now (join tables (p % 2) sides.now) }
 {
     let w = join::join(p, sides);
     Winner {
-        found: float::is_finite(w.cost),
         cost: w.cost,
         p: p % 2,
         i1: w.i1,
@@ -141,129 +143,50 @@ fn winner(p: u32, sides: &Sides) -> Winner
     }
 }
 
-// ---- one parity, section by section
 // Two seed joins, the second only where the first path is not all exact; the bounds; what they leave, resolved; the best path of that.
-fn pass(
-    p: u32,
-    rows1: &Rows,
-    rows2: &Rows,
-    rows3: &Rows,
-    fall1: [Entry; 128],
-    fall3: [Entry; 128],
-    sides: &Sides,
-    u0: f64,
-    setting: u32,
-) -> Winner
-    ensures { result ≡ pass_of
-        (end_with tables (solve_in rows1.now)
-        (pairs_of prefixes) fall1 (rule_of setting).ends)
-        (mid_with tables (solve_in rows2.now)
-        middle_sets (rule_of setting).mids)
-        (end_with tables (solve_in rows3.now)
-        (pairs_of suffixes) fall3 (rule_of setting).ends) (p % 2) (record { sides = sides.now; u = u0 }) }
+fn pass(p: u32, block: &Block, sides: &mut Sides, u0: f64) -> Winner
+    ensures { winner_by result ≡ pass_of (end_full block.now.first.now) (mid_full block.now.middle.now) (end_full block.now.last.now) (p % 2)
+        (record { sides = sides.old; u = u0 }) }
 {
-    let pre = trellis::prefixes();
-    let sets = trellis::middle_sets();
-    let suf = trellis::suffixes();
-    let n = ends_of(setting);
-    let m = mids_of(setting);
     let h = lead(p, sides);
-    let a = Sides {
-        e1: resolve::seed_end(rows1, &pre, fall1, sides.e1, h.i1, n),
-        e2: resolve::seed_mid(rows2, &sets, sides.e2, h.i2, m),
-        e3: resolve::seed_end(rows3, &suf, fall3, sides.e3, h.i3, n),
-    };
+    resolve_path(block, sides, h);
     let x = known(h, u0);
-    let l = next(h, p, &a);
-    let c = Sides {
-        e1: resolve::seed_end(rows1, &pre, fall1, a.e1, l.i1, n),
-        e2: resolve::seed_mid(rows2, &sets, a.e2, l.i2, m),
-        e3: resolve::seed_end(rows3, &suf, fall3, a.e3, l.i3, n),
-    };
-    let b = join::bounds(p, &c, known(l, x));
-    let left = Sides {
-        e1: resolve::resolve_ends(rows1, &pre, fall1, c.e1, b.b1, b.u, n),
-        e2: resolve::resolve_mids(rows2, &sets, c.e2, b.b2, b.u, m),
-        e3: resolve::resolve_ends(rows3, &suf, fall3, c.e3, b.b3, b.u, n),
-    };
-    winner(p, &left)
-}
-
-// The last section, and the pass over all three.
-fn last(
-    p: u32,
-    rows1: &Rows,
-    fall1: [Entry; 128],
-    e1: [Entry; 128],
-    rows2: &Rows,
-    e2: [Entry; 256],
-    t3: [f64; 8],
-    u0: f64,
-    setting: u32,
-) -> Winner
-    ensures { result ≡ pass_of
-        (end_with tables (solve_in rows1.now)
-        (pairs_of prefixes) fall1 (rule_of setting).ends)
-        (mid_with tables (solve_in rows2.now)
-        middle_sets (rule_of setting).mids)
-        (def.solved3 tables (rule_of setting) t3 (p % 2)) (p % 2)
-        (record { sides = record { e1 = e1; e2 = e2; e3 = last_start t3 (p % 2) }; u = u0 }) }
-{
-    let rows3 = coord::rows_of(t3, p);
-    let suf = trellis::suffixes();
-    let fall3 = fallback_entries::fallbacks(1, p, t3);
-    let e3 = end_starts(&rows3, &suf, fall3);
-    let sides = Sides { e1, e2, e3 };
-    pass(p, rows1, rows2, &rows3, fall1, fall3, &sides, u0, setting)
-}
-
-// The middle section, and what follows it.
-fn middle(
-    p: u32,
-    rows1: &Rows,
-    fall1: [Entry; 128],
-    e1: [Entry; 128],
-    t2: [f64; 8],
-    t3: [f64; 8],
-    u0: f64,
-    setting: u32,
-) -> Winner
-    ensures { result ≡ pass_of
-        (end_with tables (solve_in rows1.now)
-        (pairs_of prefixes) fall1 (rule_of setting).ends)
-        (def.solved2 tables (rule_of setting) t2 (p % 2)) (def.solved3 tables (rule_of setting) t3 (p % 2)) (p % 2)
-        (record { sides = record { e1 = e1; e2 = mid_starts t2 (p % 2); e3 = last_start t3 (p % 2) }; u = u0 }) }
-{
-    let rows2 = coord::rows_of(t2, p);
-    let sets = trellis::middle_sets();
-    let e2 = mid_starts(&rows2, &sets);
-    last(p, rows1, fall1, e1, &rows2, e2, t3, u0, setting)
+    let l = next(h, p, sides);
+    resolve_path(block, sides, l);
+    let b = join::bounds(p, sides, known(l, x));
+    close(block, sides, &b);
+    winner(p, sides)
 }
 
 // The winner of the parity p modulo 2 at the targets of the three sections; u0 is the best cost of the parities before.
-pub fn parity(p: u32, t1: [f64; 8], t2: [f64; 8], t3: [f64; 8], u0: f64, setting: u32) -> Winner
-    ensures { result ≡ def.parity tables (rule_of setting) (record { t1 = t1; t2 = t2; t3 = t3 }) (p % 2) u0 }
+pub fn parity(p: u32, targets: &Targets, u0: f64, setting: u32) -> Winner
+    ensures { winner_by result ≡ def.parity tables (rule_of setting) targets.now (p % 2) u0 }
 {
-    let rows = coord::rows_of(t1, p);
-    let pre = trellis::prefixes();
-    let fall = fallback_entries::fallbacks(0, p, t1);
-    let e = end_starts(&rows, &pre, fall);
-    middle(p, &rows, fall, e, t2, t3, u0, setting)
+    let ends = shrinks(setting, search::END_SHRINKS);
+    let mids = shrinks(setting, search::SHRINKS);
+    let first = end_of(0, p, targets.t1, trellis::prefixes(), ends);
+    let middle = middle_of(p, targets.t2, mids);
+    let last = end_of(1, p, targets.t3, trellis::suffixes(), ends);
+    let mut sides = Sides {
+        e1: resolve::starts(&first),
+        e2: resolve::starts(&middle),
+        e3: resolve::starts(&last),
+    };
+    let block = Block {
+        first: &first,
+        middle: &middle,
+        last: &last,
+    };
+    pass(p, &block, &mut sides, u0)
 }
 
 // ---- the parities in turn
 // No winner yet.
 fn nobody() -> Winner
-    ensures { result ≡ def.nobody }
+    ensures { winner_by result ≡ def.nobody }
 {
-    let none = Entry {
-        value: search::infinite(),
-        exact: true,
-        byte: 0,
-        key: 0,
-    };
+    let none = Entry::infeasible();
     Winner {
-        found: false,
         cost: search::infinite(),
         p: 0,
         i1: 0,
@@ -276,29 +199,33 @@ fn nobody() -> Winner
 }
 
 fn cost_of(w: Winner) -> f64
-    ensures { result ≡ def.cost_of w }
+    ensures { result ≡ def.cost_of (winner_by w) }
 {
-    if w.found { w.cost } else { search::infinite() }
+    if w.is_found() {
+        w.cost
+    } else {
+        search::infinite()
+    }
 }
 
 // A later parity must be strictly cheaper.
 fn choose(a: Winner, b: Winner) -> Winner
-    ensures { result ≡ def.choose a b }
+    ensures { winner_by result ≡ def.choose (winner_by a) (winner_by b) }
 {
-    if b.found & (!a.found | (b.cost < a.cost)) {
+    if b.is_found() & (!a.is_found() | (b.cost < a.cost)) {
         return b;
     }
     a
 }
 
 // The winner at the targets of the three sections: over parity 0, and then, where `odd` says so, over parity 1.
-pub fn search(t1: [f64; 8], t2: [f64; 8], t3: [f64; 8], setting: u32, odd: bool) -> Winner
-    ensures { result ≡ def.search tables (rule_of setting) (record { t1 = t1; t2 = t2; t3 = t3 }) (def.parities_of odd) }
+pub fn search(targets: &Targets, setting: u32, odd: bool) -> Winner
+    ensures { winner_by result ≡ def.search tables (rule_of setting) targets.now (def.parities_of odd) }
 {
     let none = nobody();
-    let even = choose(none, parity(0, t1, t2, t3, cost_of(none), setting));
+    let even = choose(none, parity(0, targets, cost_of(none), setting));
     if !odd {
         return even;
     }
-    choose(even, parity(1, t1, t2, t3, cost_of(even), setting))
+    choose(even, parity(1, targets, cost_of(even), setting))
 }

@@ -4,10 +4,7 @@ use mathlib.Core.Bool.{Bool, true, false, cond, ◌&&◌, not}
 use mathlib.Core.List.{List}
 use Prim.Native.Nat.{ℕ, ◌≤◌, min}
 use native.Mathlib.Omega.{arith}
-use lib.ListN.{length, set}
-use lib.Seq.{set_out}
 use lib.Ieee.{Float}
-use Rattle.laws.specs.Laws.Tests.{cond_same}
 use Rattle.rank.specs.declared.Bound.{Bound}
 use Rattle.rank.specs.Vector.{bound_cut, middle_cut}
 use Rattle.rank.specs.Answers.{packed_of}
@@ -20,8 +17,6 @@ use Rattle.search.specs.Solve.{infinity, found_of}
 use Rattle.search.specs.Bound.{lex_num, lex_of}
 use Rattle.search.specs.Tables.{tables, closed_of}
 use Rattle.search.specs.Entries.{infeasible, better, mid_of, settle}
-use Rattle.search.specs.Join.{ent_at}
-use Rattle.search.specs.Parity.{fixed}
 use Rattle.coord.specs.declared.Rows.{Rows}
 use Rattle.solve.specs.Inner.Flat.{solve_in}
 use Rattle.resolve.specs.Inner.Flat.{Search, mid_by, mid_over, lowered_by, start_over}
@@ -52,10 +47,6 @@ started f b0 c0 b1 c1 he he' ht hl hl' hx =
     let near = he' ∙ ap (λ (a : Entry). better a b1 c1) he in
     let low = hl' ∙ ap (λ (z : Float). lowered_by z b1) (hl ∙ ap (λ (z : Float). lowered_by z b0) ht) in
     hx ∙ (ap₂ (λ (a : Entry) (z : Float). settle (record { ent = a; lb = z; loose = not (b0.met && b1.met) })) near low ∙ start_over_lem f b0 c0 b1 c1)
-
-pub of_bases : (f : Entry) (c0 c1 : ℕ) {b0 b1 x0 x1 : Best} {x : Entry} → b0 ≡ x0 → b1 ≡ x1 → x ≡ start_over f b0 c0 b1 c1
-    → x ≡ start_over f x0 c0 x1 c1
-of_bases f c0 c1 q0 q1 hx = hx ∙ ap₂ (λ (a b : Best). start_over f a c0 b c1) q0 q1
 
 -- ---- resolved in full
 -- whether a member was met
@@ -112,11 +103,3 @@ pub solve_eight : (rows : Rows) (c want : ℕ) (bound : Closed) (n : ℕ) → 8 
     → solve_in rows c want bound n ≡ solve_in rows c want bound 8
 unfolding solve_in
 solve_eight rows c want bound n h = let q : min n 8 ≡ 8 = omega arith in rw q
-
--- ---- one entry of a list: a place past the end changes nothing
-pub past : (e : List Entry) (i : ℕ) (new : Entry) → length e ≤ i → e ≡ fixed e i new
-past e i new h =
-    sym (ap (λ (l : List Entry). cond (ent_at e i).exact e l) (set_out e i new h) ∙ cond_same (List Entry) (ent_at e i).exact e)
-
-pub resolved : (e : List Entry) (i : ℕ) {x new : Entry} → (ent_at e i).exact ≡ false → x ≡ new → set e i x ≡ fixed e i new
-resolved e i {x} {new} h q = ap (set e i) q ∙ sym (ap (λ (m : Bool). cond m e (set e i new)) h)

@@ -1,37 +1,71 @@
-// The entries of the join: as they start (`ends`, `mids`) and resolved in full (`end_resolve` and `mid_resolve` of the Rust's
-// encoder.rs, and the calls that resolve one entry or all that a bound leaves), over the flat rows of a section.
+// The entries of the join: as they start and resolved in full (`end_resolve` and `mid_resolve` of the Rust's encoder.rs, and the calls that
+// resolve one entry or all that a bound leaves), over the flat rows of a section.
+// The idea: an end and the middle differ in how an entry is made, and in how many there are. That is what a `Section` says; what is done with
+// the entries is written once, for both.
 #![tactic(auto)]
 
-ghost use Rattle.std.specs.Prelude.{◌≡◌, ◌<◌};
-ghost use Rattle.std.specs.Float.Ieee.{lt};
+ghost use Rattle.std.specs.Prelude.{◌≡◌, ◌<◌, ℕ, List};
 ghost use Rattle.laws.specs.Words.{tab};
 ghost use Rattle.rank.specs.Answers.{packed_of};
+ghost use Rattle.search.specs.declared.Entry.{Entry};
 ghost use Rattle.search.specs.Bound.{lex_of};
 ghost use Rattle.search.specs.Tables.{tables, class_of};
 ghost use Rattle.search.specs.Entries as search;
 ghost use Rattle.search.specs.Parity.{fixed, closed};
+ghost use Rattle.solve.specs.declared.Pair.{Pair};
 ghost use Rattle.solve.specs.Inner.Flat.{solve_in};
-ghost use Rattle.resolve.specs.Inner.Flat.{better_by, mid_by, end_over, end_with, mid_over, mid_with, closed_with};
-ghost use Rattle.resolve.specs.Inner.Flat.{of_parity, lowered_by, start_over, start_with, base_entry, mid_start_with};
+ghost use Rattle.resolve.specs.Inner.Flat.{better_by, mid_by, end_over, mid_over, closed_with};
+ghost use Rattle.resolve.specs.Inner.Flat.{of_parity, lowered_by, start_over, base_entry, in_a_row};
+ghost use Rattle.resolve.specs.Inner.Flat.{end_bases, end_first, end_full, mid_bases, mid_first, mid_full};
 
 use coord::Rows;
 use rank::Bound;
 use search::{Best, Closed, Entry, Found};
 use solve::Pair;
 
-// ---- leaves
-// What the join does not see.
-fn infeasible() -> Entry
-    ensures { result ≡ search.infeasible }
-{
-    Entry {
-        value: search::infinite(),
-        exact: true,
-        byte: 0,
-        key: 0,
-    }
+// An end of a block: the rows of its section, the bytes of its states, two to a state, the fallbacks of its entries, and how many shrinks the
+// rule runs.
+#[derive(Drop)]
+pub struct End {
+    pub rows: Rows,
+    pub bytes: [[u8; 2]; 64],
+    pub fall: [Entry; 128],
+    pub shrinks: usize,
 }
 
+// The middle of a block: the rows of its section, its bytes, and how many shrinks the rule runs.
+#[derive(Drop)]
+pub struct Middle {
+    pub rows: Rows,
+    pub sets: [u8; 128],
+    pub shrinks: usize,
+}
+
+// A section of N entries.
+pub trait Section<const N: usize> {
+    ghost bases: { Self → List Pair };
+
+    ghost start: { Self → ℕ → Entry };
+
+    ghost full: { Self → ℕ → Entry };
+
+    // The bases of its bytes.
+    fn bases(&self) -> [Pair; 128]
+        ensures { result ≡ bases self.now };
+
+    // Entry i as it starts: what the bases say of it.
+    fn start(&self, pairs: &[Pair; 128], i: usize) -> Entry
+        requires place { i < N }
+        requires made { pairs.now ≡ bases self.now }
+        ensures { result ≡ start self.now i };
+
+    // Entry i resolved in full: what the rule finds.
+    fn full(&self, i: usize) -> Entry
+        requires { i < N }
+        ensures { result ≡ full self.now i };
+}
+
+// ---- the bounds
 // A bound of crate rank as the search compares with it: its cut as one number, coordinate 0 most significant.
 fn closed_of(b: Bound) -> Closed
     ensures { result ≡ record { cost = b.cost; cut = lex_of (packed_of b.cut) } }
@@ -75,12 +109,7 @@ fn nearer(e: Entry, b: Best, c: u8) -> Entry
     ensures { result ≡ search.better e b c }
 {
     if b.met & (b.d < e.value) {
-        return Entry {
-            value: b.d,
-            exact: true,
-            byte: c,
-            key: b.key,
-        };
+        return Entry::exact(b.d, c, b.key);
     }
     e
 }
@@ -106,8 +135,7 @@ fn settled(e: Entry, lb: f64, loose: bool) -> Entry
         return Entry {
             value: lb,
             exact: false,
-            byte: e.byte,
-            key: e.key,
+            ..e
         };
     }
     e
@@ -120,23 +148,6 @@ fn end_start(f: Entry, b0: Best, c0: u8, b1: Best, c1: u8) -> Entry
     let e = nearer(nearer(f, b0, c0), b1, c1);
     let lb = lowered(lowered(search::infinite(), b0), b1);
     settled(e, lb, !(b0.met & b1.met))
-}
-
-// The entries of an end as they start: the bases of both bytes of a state, and its fallback.
-pub fn ends(pairs: [Pair; 128], bytes: &[[u8; 2]; 64], fall: [Entry; 128]) -> [Entry; 128]
-    ensures { result ≡ tab (start_with pairs bytes.now fall) 128 }
-{
-    let none = infeasible();
-    let mut out = [none; 128];
-    for i in 0..128usize {
-        let f = fall[i];
-        let q0 = pairs[2 * (i % 64)];
-        let q1 = pairs[2 * (i % 64) + 1];
-        let b0 = of_parity(q0, i / 64);
-        let b1 = of_parity(q1, i / 64);
-        out[i] = end_start(f, b0, bytes[i % 64][0], b1, bytes[i % 64][1]);
-    }
-    out
 }
 
 // One middle entry: a base that is no member is a bound.
@@ -152,46 +163,21 @@ fn mid_start(q: Pair, d: usize, c: u8) -> Entry
     }
 }
 
-// The middle entries as they start: the bases of each byte.
-pub fn mids(pairs: [Pair; 128], sets: &[u8; 128]) -> [Entry; 256]
-    ensures { result ≡ tab (mid_start_with pairs sets.now) 256 }
-{
-    let none = infeasible();
-    let mut out = [none; 256];
-    for i in 0..256usize {
-        let q = pairs[i / 2];
-        out[i] = mid_start(q, i % 2, sets[i / 2]);
-    }
-    out
-}
-
 // ---- resolved in full
 // A member that is strictly nearer replaces the entry.
 fn better(e: Entry, f: Found, c: u8) -> Entry
     ensures { result ≡ better_by e f c }
 {
     match f {
-        Found::At(d, key) => {
-            if d < e.value {
-                return Entry {
-                    value: d,
-                    exact: true,
-                    byte: c,
-                    key,
-                };
-            }
-            e
-        }
-        Found::Nothing => e,
+        Found::At(d, key) if d < e.value => Entry::exact(d, c, key),
+        _ => e,
     }
 }
 
 // The fallback f, then the rule on both bytes of a state.
 fn end_resolve(rows: &Rows, f: Entry, r: usize, c0: u8, c1: u8, n: usize) -> Entry
     requires { r < 2 }
-    ensures { result ≡ end_over tables
-        (solve_in rows.now)
-        f r c0 c1 n }
+    ensures { result ≡ end_over tables (solve_in rows.now) f r c0 c1 n }
 {
     let b = class_bound(r);
     let e = better(f, solve::solve(rows, c0, r as u32, b, n), c0);
@@ -203,173 +189,144 @@ fn mid_of(f: Found, c: u8) -> Entry
     ensures { result ≡ mid_by f c }
 {
     match f {
-        Found::At(d, key) => Entry {
-            value: d,
-            exact: true,
-            byte: c,
-            key,
-        },
-        Found::Nothing => infeasible(),
+        Found::At(d, key) => Entry::exact(d, c, key),
+        Found::Nothing => Entry::infeasible(),
     }
 }
 
 // The rule on one byte, and once more with all eight shrinks where fewer met no member.
 fn mid_resolve(rows: &Rows, c: u8, d: usize, n: usize) -> Entry
     requires { d < 2 }
-    ensures { result ≡ mid_over tables
-        (solve_in rows.now)
-        c d n }
+    ensures { result ≡ mid_over tables (solve_in rows.now) c d n }
 {
     let b = mixed_bound();
     let f = solve::solve(rows, c, d as u32, b, n);
     match f {
-        Found::At(d, key) => Entry {
-            value: d,
-            exact: true,
-            byte: c,
-            key,
-        },
+        Found::At(d, key) => Entry::exact(d, c, key),
         Found::Nothing => {
             if n < search::SHRINKS {
                 return mid_of(solve::solve(rows, c, d as u32, b, search::SHRINKS), c);
             }
-            infeasible()
+            Entry::infeasible()
         }
     }
 }
 
-// An exact entry stays; one whose best path b is under u is resolved; the rest are dropped.
-fn end_closed(
-    rows: &Rows,
-    f: Entry,
-    r: usize,
-    c0: u8,
-    c1: u8,
-    e: Entry,
-    b: f64,
-    u: f64,
-    n: usize,
-) -> Entry
-    requires { r < 2 }
-    ensures { result ≡ closed e (lt b u) (end_over tables
-        (solve_in rows.now)
-        f r c0 c1 n) }
+// ---- the two kinds of section
+// The bytes of all states in a row, two to a state.
+fn in_a_row(bytes: &[[u8; 2]; 64]) -> [u8; 128]
+    ensures { result ≡ in_a_row bytes.now }
+{
+    let mut out = [0u8; 128];
+    for i in 0..128usize {
+        out[i] = bytes[i / 2][i % 2];
+    }
+    out
+}
+
+// Entry 64 r + s of an end is that of class r and state s.
+impl Section<128> for End {
+    ghost bases = { end_bases };
+
+    ghost start = { end_first };
+
+    ghost full = { end_full };
+
+    fn bases(&self) -> [Pair; 128] {
+        let row = in_a_row(&self.bytes);
+        solve::pairs(&self.rows, &row, class_bound(0), class_bound(1))
+    }
+
+    fn start(&self, pairs: &[Pair; 128], i: usize) -> Entry {
+        let f = self.fall[i];
+        let q0 = pairs[2 * (i % 64)];
+        let q1 = pairs[2 * (i % 64) + 1];
+        let b0 = of_parity(q0, i / 64);
+        let b1 = of_parity(q1, i / 64);
+        end_start(f, b0, self.bytes[i % 64][0], b1, self.bytes[i % 64][1])
+    }
+
+    #[tactic(auto, unfolding(crate::specs::Inner::Flat::end_with))]
+    fn full(&self, i: usize) -> Entry {
+        let f = self.fall[i];
+        let c0 = self.bytes[i % 64][0];
+        let c1 = self.bytes[i % 64][1];
+        end_resolve(&self.rows, f, i / 64, c0, c1, self.shrinks)
+    }
+}
+
+// A middle entry is twice the place of its byte plus its class.
+impl Section<256> for Middle {
+    ghost bases = { mid_bases };
+
+    ghost start = { mid_first };
+
+    ghost full = { mid_full };
+
+    fn bases(&self) -> [Pair; 128] {
+        let b = mixed_bound();
+        solve::pairs(&self.rows, &self.sets, b, b)
+    }
+
+    fn start(&self, pairs: &[Pair; 128], i: usize) -> Entry {
+        let q = pairs[i / 2];
+        mid_start(q, i % 2, self.sets[i / 2])
+    }
+
+    fn full(&self, i: usize) -> Entry {
+        mid_resolve(&self.rows, self.sets[i / 2], i % 2, self.shrinks)
+    }
+}
+
+// ---- the entries of a section
+// The entries as they start.
+pub fn starts<const N: usize, S: Section<N>>(section: &S) -> [Entry; N]
+    ensures { result ≡ tab (S.start section.now) N }
+{
+    let pairs = section.bases();
+    let mut out = [Entry::infeasible(); N];
+    for i in 0..N {
+        out[i] = section.start(&pairs, i);
+    }
+    out
+}
+
+// Entry i resolved where it is not exact; no entry where i is past the end.
+pub fn seed<const N: usize, S: Section<N>>(section: &S, entries: &mut [Entry; N], i: usize)
+    ensures { entries.new ≡ fixed entries.old i (S.full section.now i) }
+{
+    if i < N {
+        let e = entries[i];
+        if !e.exact {
+            entries[i] = section.full(i);
+        }
+    }
+}
+
+// An exact entry stays; one whose best path is under the best cost known is resolved; the rest are dropped.
+fn closed<const N: usize, S: Section<N>>(section: &S, i: usize, e: Entry, under: bool) -> Entry
+    requires { i < N }
+    ensures { result ≡ closed e under (S.full section.now i) }
 {
     if e.exact {
         return e;
     }
-    if b < u {
-        return end_resolve(rows, f, r, c0, c1, n);
+    if under {
+        return section.full(i);
     }
-    infeasible()
+    Entry::infeasible()
 }
 
-// The same of all entries of an end.
-pub fn resolve_ends(
-    rows: &Rows,
-    bytes: &[[u8; 2]; 64],
-    fall: [Entry; 128],
-    e: [Entry; 128],
-    b: [f64; 128],
+// The same of all entries: `bounds` holds the best path through each, u is the best cost known.
+pub fn close<const N: usize, S: Section<N>>(
+    section: &S,
+    entries: &mut [Entry; N],
+    bounds: &[f64; N],
     u: f64,
-    n: usize,
-) -> [Entry; 128]
-    ensures { result ≡ tab (closed_with e b u (end_with tables
-        (solve_in rows.now)
-        bytes.now fall n)) 128 }
+)
+    ensures { entries.new ≡ tab (closed_with entries.old bounds.now u (S.full section.now)) N }
 {
-    let none = infeasible();
-    let mut out = [none; 128];
-    for i in 0..128usize {
-        let first = fall[i];
-        let x = e[i];
-        let c0 = bytes[i % 64][0];
-        let c1 = bytes[i % 64][1];
-        out[i] = end_closed(rows, first, i / 64, c0, c1, x, b[i], u, n);
+    for i in 0..N {
+        entries[i] = closed(section, i, entries[i], bounds[i] < u);
     }
-    out
-}
-
-// The same of a middle entry m.
-fn mid_closed(rows: &Rows, c: u8, d: usize, m: Entry, b: f64, u: f64, n: usize) -> Entry
-    requires { d < 2 }
-    ensures { result ≡ closed m (lt b u) (mid_over tables
-        (solve_in rows.now)
-        c d n) }
-{
-    if m.exact {
-        return m;
-    }
-    if b < u {
-        return mid_resolve(rows, c, d, n);
-    }
-    infeasible()
-}
-
-// The same of all middle entries.
-pub fn resolve_mids(
-    rows: &Rows,
-    sets: &[u8; 128],
-    e: [Entry; 256],
-    b: [f64; 256],
-    u: f64,
-    n: usize,
-) -> [Entry; 256]
-    ensures { result ≡ tab (closed_with e b u (mid_with tables
-        (solve_in rows.now)
-        sets.now n)) 256 }
-{
-    let none = infeasible();
-    let mut out = [none; 256];
-    for i in 0..256usize {
-        let x = e[i];
-        out[i] = mid_closed(rows, sets[i / 2], i % 2, x, b[i], u, n);
-    }
-    out
-}
-
-// One end entry resolved where it is not exact; no entry where i is past the end.
-pub fn seed_end(
-    rows: &Rows,
-    bytes: &[[u8; 2]; 64],
-    fall: [Entry; 128],
-    e: [Entry; 128],
-    i: usize,
-    n: usize,
-) -> [Entry; 128]
-    ensures { result ≡ fixed e i (end_with tables
-        (solve_in rows.now)
-        bytes.now fall n i) }
-{
-    if i >= 128 {
-        return e;
-    }
-    let x = e[i];
-    if x.exact {
-        return e;
-    }
-    let f = fall[i];
-    let c0 = bytes[i % 64][0];
-    let c1 = bytes[i % 64][1];
-    let mut out = e;
-    out[i] = end_resolve(rows, f, i / 64, c0, c1, n);
-    out
-}
-
-// One middle entry resolved where it is not exact; no entry where m is past the end.
-pub fn seed_mid(rows: &Rows, sets: &[u8; 128], e: [Entry; 256], m: usize, n: usize) -> [Entry; 256]
-    ensures { result ≡ fixed e m (mid_with tables
-        (solve_in rows.now)
-        sets.now n m) }
-{
-    if m >= 256 {
-        return e;
-    }
-    let x = e[m];
-    if x.exact {
-        return e;
-    }
-    let mut out = e;
-    out[m] = mid_resolve(rows, sets[m / 2], m % 2, n);
-    out
 }

@@ -7,10 +7,10 @@ use Rattle.std.proofs.Math.Logic.{inl}
 use mathlib.Core.List.{List, [], ◌∷◌, Memᴰ}
 use Rattle.std.proofs.Math.Dec.{T}
 use Rattle.std.specs.Float.Ieee.{lt}
-use Rattle.search.specs.declared.Winner.{Winner}
 use Rattle.search.specs.Tables.{Tables}
 use Rattle.search.specs.Entries.{Rule}
-use Rattle.search.specs.Parity.{Targets, parity, nobody, cost_of, choose, search_over, both_parities, even_parities, search}
+use Rattle.search.specs.declared.Targets.{Targets}
+use Rattle.search.specs.Parity.{Winner, parity, nobody, cost_of, choose, search_over, both_parities, even_parities, search}
 
 module _ (g : Tables) (u : Rule) (t : Targets) where
   parity_is : (p : ℕ) (w : Winner) → (parity g u t p (cost_of w)).p ≡ p

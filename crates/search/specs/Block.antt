@@ -6,11 +6,11 @@ use Rattle.std.specs.Prelude.{cond, List, ℕ, ◌+◌, ◌-◌, ltb, ℤ, get_o
 use Rattle.std.specs.Float.{nan}
 use Rattle.laws.specs.Words.{tab}
 use Rattle.trellis.specs.Trio.{order, places}
-use Rattle.search.specs.declared.Winner.{Winner}
 use Rattle.search.specs.Record.{all_shrinks, end_shrinks}
 use Rattle.search.specs.Tables.{tables}
 use Rattle.search.specs.Entries.{Rule, section_at}
-use Rattle.search.specs.Parity.{Targets, search}
+use Rattle.search.specs.declared.Targets.{Targets}
+use Rattle.search.specs.Parity.{Winner, search}
 
 -- ---- a setting of the shrinks: n of them, but no more than 7 at the ends and 8 in the middle
 abbrev pub rule_of : ℕ → Rule

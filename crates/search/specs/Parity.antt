@@ -11,18 +11,13 @@ use Rattle.std.specs.Float.Ieee.Scale.{finite}
 use Rattle.search.specs.declared.Entry.{Entry}
 use Rattle.search.specs.declared.Way.{Way}
 use Rattle.search.specs.declared.Bounds.{Bounds}
-use Rattle.search.specs.declared.Winner.{Winner}
+use Rattle.search.specs.declared.Winner as declared
+use Rattle.search.specs.declared.Targets.{Targets}
 use Rattle.search.specs.Solve.{infinity}
 use Rattle.search.specs.Tables.{Tables}
 use Rattle.search.specs.Entries.{Rule, infeasible, end_resolve, mid_resolve, end_start, mid_start}
 use Rattle.search.specs.declared.Sides.{Sides}
 use Rattle.search.specs.Join.{ent_at, way_at, join, all_exact}
-
--- the targets of the three sections, in trio order
-pub record Targets : Type 0 where
-  pub t1 : List Float
-  pub t2 : List Float
-  pub t3 : List Float
 
 -- ---- entry i resolved in full
 abbrev pub solved1 : Tables → Rule → List Float → ℕ → ℕ → Entry
@@ -115,6 +110,17 @@ last_sides g u t p s = closing g u t p s.sides (bounds_to g p s.sides s.u 4096)
 
 -- ---- the winner of a parity: the best path through what is left, found where its cost is finite. The Rust's Winner names r and s8, which are
 -- i1 / 64 and i1 % 64, the middle class i2 % 2, and s16, which is i3 % 64
+pub record Winner : Type 0 where
+  pub found : Bool
+  pub cost : Float
+  pub p : ℕ
+  pub i1 : ℕ
+  pub i2 : ℕ
+  pub i3 : ℕ
+  pub s1 : Entry
+  pub s2 : Entry
+  pub s3 : Entry
+
 abbrev pub winner_of : ℕ → Sides → Way → Winner
 winner_of p s w =
     record {
@@ -127,6 +133,21 @@ winner_of p s w =
       s1 = ent_at s.e1 w.i1;
       s2 = ent_at s.e2 w.i2;
       s3 = ent_at s.e3 w.i3;
+    }
+
+-- a winner of the code, which tells by its cost whether it was found
+abbrev pub winner_by : declared.Winner → Winner
+winner_by w =
+    record {
+      found = finite w.cost;
+      cost = w.cost;
+      p = w.p;
+      i1 = w.i1;
+      i2 = w.i2;
+      i3 = w.i3;
+      s1 = w.s1;
+      s2 = w.s2;
+      s3 = w.s3;
     }
 
 -- `solve_parity`: u0 is the best cost of the parities before

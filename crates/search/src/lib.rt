@@ -2,8 +2,10 @@
 // crates above hold code that is proved to compute it.
 #![tactic(auto)]
 
-ghost use Rattle.std.specs.Prelude.{◌≡◌};
+ghost use Rattle.std.specs.Prelude.{◌≡◌, true};
+ghost use Rattle.std.specs.Float.Ieee.Scale.{finite};
 ghost use Rattle.search.specs.Solve.{infinity};
+ghost use Rattle.search.specs.Entries.{infeasible};
 
 // How many shrinks there are, and how many of them an end runs at most.
 pub const SHRINKS: usize = 8;
@@ -38,7 +40,7 @@ pub struct Candidate {
     pub dist: f64,
 }
 
-// The nearest member so far, if one was met.
+// The nearest member so far, and whether one was met. Where none was, the distance is a bound, which is looked at too, so it is no Option.
 #[derive(Clone, Copy)]
 pub struct Best {
     pub d: f64,
@@ -46,7 +48,7 @@ pub struct Best {
     pub met: bool,
 }
 
-// A section search answers a distance with its row, or that no member was met.
+// A section search answers a distance with its row, or that no member was met. An enum of its own: document 01 asks for this form by name.
 #[derive(Clone, Copy)]
 pub enum Found {
     At(f64, u32),
@@ -60,13 +62,43 @@ pub struct Top {
     pub j1: usize,
 }
 
-// A section as the join sees it: a distance that is exact or a lower bound, and the byte and row of the point when exact.
+// A section as the join sees it: a distance that is exact or a lower bound, and the byte and row of the point when exact. The distance is looked
+// at in both cases, so it is no Option.
 #[derive(Clone, Copy)]
 pub struct Entry {
     pub value: f64,
     pub exact: bool,
     pub byte: u8,
     pub key: u32,
+}
+
+impl Entry {
+    // A point that is known, at this distance.
+    pub fn exact(value: f64, byte: u8, key: u32) -> Entry
+        ensures { result ≡ record { value = value; exact = true; byte = byte; key = key } }
+    {
+        Entry {
+            value,
+            exact: true,
+            byte,
+            key,
+        }
+    }
+
+    // What the join does not see.
+    pub fn infeasible() -> Entry
+        ensures { result ≡ infeasible }
+    {
+        Entry::exact(infinite(), 0, 0)
+    }
+}
+
+// The targets of the three sections, in the order of the trio.
+#[derive(Clone, Copy)]
+pub struct Targets {
+    pub t1: [f64; 8],
+    pub t2: [f64; 8],
+    pub t3: [f64; 8],
 }
 
 // The entries of the three sections, in the order of the trio: entry 64 r + state of an end, and of the middle entry twice its place plus the
@@ -96,10 +128,10 @@ pub struct Bounds {
     pub b3: [f64; 128],
 }
 
-// The winning path of a block at one scale, where there is one, with its three sections.
+// The best path of a block at one scale, with its three sections. Its other fields are promised where its cost is not finite too, so it is no
+// Option.
 #[derive(Clone, Copy)]
 pub struct Winner {
-    pub found: bool,
     pub cost: f64,
     pub p: u32,
     pub i1: usize,
@@ -108,6 +140,15 @@ pub struct Winner {
     pub s1: Entry,
     pub s2: Entry,
     pub s3: Entry,
+}
+
+impl Winner {
+    // Whether there is a path: its cost is finite.
+    pub fn is_found(&self) -> bool
+        ensures { result ≡ finite self.now.cost }
+    {
+        float::is_finite(self.cost)
+    }
 }
 
 // What every cost is below.

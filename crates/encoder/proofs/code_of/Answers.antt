@@ -6,7 +6,7 @@ use lib.Ieee.{Float}
 use Rattle.tetra.specs.declared.Encoded.{Encoded}
 use Rattle.tetra.specs.Encode.{encode_of}
 use Rattle.score.specs.Score.{t_of}
-use Rattle.search.specs.declared.Winner.{Winner}
+use Rattle.search.specs.Parity.{Winner, winner_by}
 use Rattle.search.specs.Block.{point_from}
 use Rattle.encoder.specs.declared.Code.{Code}
 use Rattle.encoder.specs.Encode.{code_of}
@@ -20,4 +20,4 @@ made x w p q r = rw (r, q, p)
 pub returns : goal.returns
 returns c =
     let a = c.args in
-    made a.samples a.w c.point_of-point.ensures c.encode-e.ensures c.score-score.ensures
+    made a.samples (winner_by a.w) c.point_of-point.ensures c.encode-e.ensures c.score-score.ensures

@@ -7,6 +7,7 @@ use mir.Val.{SFits}
 use mir.Facts.{to_z-of_z}
 use Rattle.laws.specs.Laws.Filled.{fill_more, fill_all}
 use Rattle.trellis.specs.Laws.Trio.{trio-fits}
+use Rattle.search.specs.Parity.{winner_by}
 use Rattle.search.specs.Block.{winner_at}
 use Rattle.encoder.proofs.point_of.Goals as goal
 
@@ -18,7 +19,7 @@ in_trio-requires c = omega (arith, c.place-j.ensures, (trio-fits c.loop-i.i (ome
 
 pub loop-i-preserved : goal.loop-i-preserved
 loop-i-preserved c =
-    let w = c.args.w in
+    let w = winner_by c.args.w in
     let f : SFits w32 c.in_trio.result = search rules in
     fill_more c.loop-i.invariant (omega arith)
     (to_z-of_z f ∙ c.in_trio.ensures ∙ ap (winner_at w) c.place-j.ensures)

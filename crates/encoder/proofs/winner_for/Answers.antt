@@ -8,7 +8,8 @@ use lib.Ieee.{Float, nan}
 use Rattle.laws.specs.Words.{tab}
 use Rattle.laws.specs.Laws.Lists.{tab-eq}
 use Rattle.search.specs.Tables.{tables}
-use Rattle.search.specs.Parity.{Targets, parities_of}
+use Rattle.search.specs.declared.Targets.{Targets}
+use Rattle.search.specs.Parity.{parities_of}
 use Rattle.search.specs.Parity as parity
 use Rattle.search.specs.Block.{rule_of, trio_of, sections}
 use Rattle.encoder.proofs.winner_for.Goals as goal

@@ -24,7 +24,8 @@ use Rattle.search.specs.Tables.{tables, class_of}
 use Rattle.search.specs.Entries.{Rule, infeasible, end_resolve, end_start, mid_start}
 use Rattle.search.specs.declared.Sides.{Sides}
 use Rattle.search.specs.Join.{no_entry, ent_at, mid_at, last_at, cost_at, way_at, join_to, all_exact}
-use Rattle.search.specs.Parity.{Targets, Seed, closed, starts, solved1, solved2, solved3, seeded, lower, lowered}
+use Rattle.search.specs.declared.Targets.{Targets}
+use Rattle.search.specs.Parity.{Seed, closed, starts, solved1, solved2, solved3, seeded, lower, lowered}
 use Rattle.search.specs.Parity.{seed_by, seed_to, seed_of, bounds_to, closing, last_sides, parity}
 use Rattle.nearest.specs.Laws.Forms.{RuleOk}
 use Rattle.nearest.specs.Laws.Under.{Num, Plain, Under, clash, inf-lt, sum3, either_num, sum3_case}

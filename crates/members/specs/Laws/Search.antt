@@ -7,11 +7,11 @@ use Rattle.std.specs.Float.{nan}
 use Rattle.std.specs.Float.Ieee.{lt}
 use Rattle.laws.specs.Laws.Lists.{tab_at}
 use Rattle.trellis.specs.Laws.Trio.{trio-fits}
-use Rattle.search.specs.declared.Winner.{Winner}
 use Rattle.search.specs.Solve.{infinity}
 use Rattle.search.specs.Tables.{tables}
 use Rattle.search.specs.Entries.{Rule}
-use Rattle.search.specs.Parity.{Targets, parity, nobody, cost_of, choose, search_over, search}
+use Rattle.search.specs.declared.Targets.{Targets}
+use Rattle.search.specs.Parity.{Winner, parity, nobody, cost_of, choose, search_over, search}
 use Rattle.search.specs.Block.{rule_of, coordinate, trio_of, targets_of, winner_for}
 use Rattle.nearest.specs.Laws.Parities.{choose-either, over_each}
 use Rattle.nearest.specs.Laws.Searched.{rule_ok}

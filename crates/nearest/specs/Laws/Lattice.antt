@@ -6,7 +6,7 @@ use Rattle.std.proofs.Common.{arith}
 use Rattle.std.specs.Float.{nan}
 use Rattle.float.specs.Distance.{coord_gap, margin}
 use Rattle.search.specs.Tables.{Tables}
-use Rattle.search.specs.Parity.{Targets}
+use Rattle.search.specs.declared.Targets.{Targets}
 use Rattle.search.specs.Record.{member, bit_at}
 use Rattle.nearest.specs.Laws.Forms.{sum_to, par_k}
 

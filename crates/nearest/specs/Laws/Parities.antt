@@ -10,10 +10,10 @@ use Rattle.std.specs.Float.Ieee.{lt}
 use Rattle.laws.specs.Laws.Tests.{is_true}
 use Rattle.search.specs.Tables.{Tables}
 use Rattle.search.specs.Entries.{Rule, end_start, mid_start}
-use Rattle.search.specs.Parity.{Targets, parity, nobody, search, search_over, choose, cost_of, last_sides, seed_of}
+use Rattle.search.specs.declared.Targets.{Targets}
+use Rattle.search.specs.Parity.{Winner, parity, nobody, search, search_over, choose, cost_of, last_sides, seed_of}
 use Rattle.search.specs.declared.Entry.{Entry}
 use Rattle.search.specs.Join.{mid_at, last_at}
-use Rattle.search.specs.declared.Winner.{Winner}
 use Rattle.nearest.specs.Laws.Lattice.{Point, Same, dist8, Margin, M}
 use Rattle.nearest.specs.Laws.Under.{Under, near_num, under-near, under-lt, under_not-lt}
 use Rattle.nearest.specs.Laws.Entries.{ES, Mine}

@@ -11,7 +11,8 @@ use Rattle.laws.specs.Words.{tab}
 use Rattle.laws.specs.Laws.Lists.{tab_at}
 use Rattle.search.specs.Tables.{Tables}
 use Rattle.search.specs.Entries.{Rule, end_resolve, end_start, mid_start}
-use Rattle.search.specs.Parity.{Targets, Seed, closed, starts, solved1, solved2, solved3, fixed, seeded, lower}
+use Rattle.search.specs.declared.Targets.{Targets}
+use Rattle.search.specs.Parity.{Seed, closed, starts, solved1, solved2, solved3, fixed, seeded, lower}
 use Rattle.search.specs.Parity.{seed_by, seed_to, seed_of, bounds_to, closing, last_sides}
 use Rattle.search.specs.declared.Entry.{Entry}
 use Rattle.search.specs.declared.Sides.{Sides}

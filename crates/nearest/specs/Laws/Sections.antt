@@ -12,7 +12,7 @@ use Rattle.laws.specs.Words.{tab}
 use Rattle.laws.specs.Laws.Lists.{tab_at, tab-length}
 use Rattle.laws.specs.Laws.Order.{le-or-lt}
 use Rattle.search.specs.Tables.{Tables}
-use Rattle.search.specs.Parity.{Targets}
+use Rattle.search.specs.declared.Targets.{Targets}
 use Rattle.search.specs.Record.{member, bit_at}
 use Rattle.search.specs.Block.{sections}
 use Rattle.nearest.specs.Laws.Forms.{odd_k, sum_to, par_k, at24}

@@ -8,12 +8,12 @@ use Rattle.float.specs.Value.{U}
 use Rattle.float.specs.Laws.Near.{Near, near-more}
 use Rattle.search.specs.Tables.{Tables}
 use Rattle.search.specs.Entries.{section_at}
-use Rattle.search.specs.Parity.{Targets, winner_of}
+use Rattle.search.specs.declared.Targets.{Targets}
+use Rattle.search.specs.Parity.{Winner, winner_of}
 use Rattle.search.specs.declared.Entry.{Entry}
 use Rattle.search.specs.declared.Sides.{Sides}
 use Rattle.search.specs.Join.{ent_at, way_at, cost_at, mid_at, last_at, join_to}
 use Rattle.search.specs.declared.Way.{Way}
-use Rattle.search.specs.declared.Winner.{Winner}
 use Rattle.search.specs.Solve.{infinity}
 use Rattle.nearest.specs.Laws.Lattice.{Sec, Point, dist8, dist24}
 use Rattle.nearest.specs.Laws.Under.{Num, Plain, Under, near-under, under-near, under_more, clash, sum3, either_num, sum3_case}

@@ -1,11 +1,14 @@
--- `parity::parity` meets its contract: what it makes of the first section is that of crate search, and so the pass is the definition.
--- Assumes nothing.
+-- `parity::parity` meets its contract: its sections are those of crate search, and so the pass is the definition. Assumes nothing.
+use mathlib.Core.Path.{◌∙◌}
 use Prim.Native.Nat.{◌%◌}
-use Rattle.parity.proofs.Sections.{with_first}
+use Rattle.parity.proofs.Sections.{over_sections}
 use Rattle.parity.proofs.parity.Goals as goal
 
 pub returns : goal.returns
 returns c =
     let s = c.args in
-    with_first s.setting (s.p % 2) s.u0 (record { t1 = s.t1; t2 = s.t2; t3 = s.t3 })
-    c.rows_of-rows.ensures c.prefixes-pre.ensures c.fallbacks-fall.ensures c.end_starts-e.ensures c.middle.ensures
+    over_sections s.targets.now s.setting (s.p % 2) s.u0
+    (c.end_of-first.ensures ∙ rw (c.prefixes.ensures, c.shrinks-ends.ensures))
+    (c.middle_of-middle.ensures ∙ rw c.shrinks-mids.ensures)
+    (c.end_of-last.ensures ∙ rw (c.suffixes.ensures, c.shrinks-ends.ensures))
+    c.starts.ensures c.starts-2.ensures c.starts-3.ensures c.pass.ensures

@@ -1,11 +1,11 @@
 -- `parity::search` meets its contract: parity 0, and then parity 1 where that is searched too. Assumes nothing.
 use mathlib.Core.Path.{◌≡◌, ◌∙◌, ap, ap₂}
 use lib.Ieee.{Float}
-use Rattle.search.specs.declared.Winner.{Winner}
+use Rattle.search.specs.Parity.{Winner}
 use Rattle.search.specs.Tables.{tables}
 use Rattle.search.specs.Entries.{Rule}
 use Rattle.search.specs.Parity as def
-use Rattle.search.specs.Parity.{Targets}
+use Rattle.search.specs.declared.Targets.{Targets}
 use Rattle.search.specs.Block.{rule_of}
 use Rattle.parity.proofs.search.Goals as goal
 
@@ -23,16 +23,12 @@ module _ (rule : Rule) (t : Targets) {none a even : Winner} {x : Float} (hn : no
 pub returns-then-not-odd : goal.returns-then-not-odd
 returns-then-not-odd c =
     let s = c.args in
-    let rule = rule_of s.setting in
-    let t : Targets = record { t1 = s.t1; t2 = s.t2; t3 = s.t3 } in
     rw c.if-not-odd.true
-    (first rule t c.nobody-none.ensures c.cost_of.ensures c.parity.ensures c.choose-even.ensures)
+    (first (rule_of s.setting) s.targets.now c.nobody-none.ensures c.cost_of.ensures c.parity.ensures c.choose-even.ensures)
 
 pub returns : goal.returns
 returns c =
     let s = c.args in
-    let rule = rule_of s.setting in
-    let t : Targets = record { t1 = s.t1; t2 = s.t2; t3 = s.t3 } in
     rw c.if-not-odd.false
-    (both rule t c.nobody-none.ensures c.cost_of.ensures c.parity.ensures c.choose-even.ensures
+    (both (rule_of s.setting) s.targets.now c.nobody-none.ensures c.cost_of.ensures c.parity.ensures c.choose-even.ensures
     c.cost_of-2.ensures c.parity-2.ensures c.choose.ensures)

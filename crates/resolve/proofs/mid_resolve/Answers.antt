@@ -1,4 +1,5 @@
 -- `resolve::mid_resolve` meets its contract, by the cases of the first answer and of the number of shrinks. Assumes nothing.
+use mathlib.Core.Path.{◌∙◌}
 use native.Mathlib.Omega.{arith}
 use Rattle.solve.specs.Inner.Flat.{solve_in}
 use Rattle.search.specs.Tables.{tables}
@@ -14,7 +15,7 @@ returns-then-n-lt-SHRINKS c =
 pub returns-in-At : goal.returns-in-At
 returns-in-At c =
     let s = c.args in
-    at_once (solve_in s.rows.now) s.c s.d s.n
+    c.exact.ensures ∙ at_once (solve_in s.rows.now) s.c s.d s.n
     c.mixed_bound-b.ensures c.solve-f.ensures c.in-At.is
 
 pub returns-else-n-lt-SHRINKS : goal.returns-else-n-lt-SHRINKS

@@ -11,7 +11,6 @@ use Rattle.rank.specs.Coord.{rank_of}
 use Rattle.rank.specs.Answers.{mark_of}
 use Rattle.float.specs.Value.{mag_units, zero64}
 use Rattle.float.specs.Calls.{abs_of, half_up, round_away, clamped, rounded}
-use Rattle.search.specs.declared.Winner.{Winner}
 use Rattle.search.specs.Record.{shrinks, coord_of, row}
 use Rattle.search.specs.Bound.{lex_num, lex_of}
 use Rattle.search.specs.Base.{par_to, now_to}
@@ -19,7 +18,8 @@ use Rattle.search.specs.Solve.{infinity, top_to, key_moved, step_of, moves_to, l
 use Rattle.search.specs.Tables.{Tables, tables}
 use Rattle.search.specs.Entries.{Rule}
 use Rattle.search.specs.Join.{join}
-use Rattle.search.specs.Parity.{Targets, starts, Seed, seed_by, seed_to, seed_of}
+use Rattle.search.specs.declared.Targets.{Targets}
+use Rattle.search.specs.Parity.{Winner, starts, Seed, seed_by, seed_to, seed_of}
 use Rattle.search.specs.Parity.{parity, nobody, cost_of, choose, search_over, both_parities, search}
 use Rattle.search.specs.Block.{rule_of}
 
