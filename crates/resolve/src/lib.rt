@@ -22,6 +22,7 @@ use coord::Rows;
 use rank::Bound;
 use search::{Best, Closed, Entry, Found};
 use solve::Pair;
+use std::array;
 
 // An end of a block: the rows of its section, the bytes of its states, two to a state, the fallbacks of its entries, and how many shrinks the
 // rule runs.
@@ -217,11 +218,7 @@ fn mid_resolve(rows: &Rows, c: u8, d: usize, n: usize) -> Entry
 fn in_a_row(bytes: &[[u8; 2]; 64]) -> [u8; 128]
     ensures { result ≡ in_a_row bytes.now }
 {
-    let mut out = [0u8; 128];
-    for i in 0..128usize {
-        out[i] = bytes[i / 2][i % 2];
-    }
-    out
+    array::from_fn(|i| bytes[i / 2][i % 2])
 }
 
 // Entry 64 r + s of an end is that of class r and state s.

@@ -19,6 +19,23 @@ ghost use Rattle.solve.specs.Inner.{Placed, Apart, Flanked, Covered, Ready};
 
 use coord::Rows;
 use search::{Best, Candidate, Closed, Found, Top};
+use std::array;
+
+// Where the eight records of a pattern stand in the rows, at one shrink.
+#[derive(Clone, Copy)]
+struct Places {
+    at: [usize; 8],
+    ghost placed: { Placed at },
+}
+
+// A step of one coordinate: coordinate j from one place of the rows to another.
+#[derive(Clone, Copy)]
+struct Move {
+    j: usize,
+    from: usize,
+    to: usize,
+    ghost in_rows: { (j < 8) × ((from < 640) × (to < 640)) },
+}
 
 // One shrink before its steps: the two least decided coordinates, the slot of the first, the base.
 #[derive(Clone, Copy)]
@@ -170,35 +187,33 @@ fn key_moved(key: u32, j: usize, x: u32, j2: usize, y: u32) -> u32
 
 // ---- one shrink
 
-// Where the eight records of a pattern stand.
-fn places(pattern: u8, shrink: usize) -> [usize; 8]
-    requires { shrink < 8 }
-    ensures { (result ≡ places_of pattern shrink) × Placed result }
-{
-    let mut at = [0usize; 8];
-    for j in 0..8usize {
-        at[j] = 16 * shrink + 2 * j + bit(pattern, j);
+impl Places {
+    // Those of a pattern.
+    fn new(pattern: u8, shrink: usize) -> Places
+        requires { shrink < 8 }
+        ensures { result.at ≡ places_of pattern shrink }
+    {
+        Places {
+            at: array::from_fn(|j| 16 * shrink + 2 * j + bit(pattern, j)),
+        }
     }
-    at
-}
 
-// The place of coordinate j.
-fn place(at: &[usize; 8], j: usize) -> usize
-    requires placed { Placed at.now }
-    requires j_bound { j < 8 }
-    ensures { (result ≡ get_or at.now j 0) × (result < 128) }
-{
-    at[j]
+    // The place of coordinate j.
+    fn place(&self, j: usize) -> usize
+        requires { j < 8 }
+        ensures { (result ≡ get_or self.now.at j 0) × (result < 128) }
+    {
+        self.at[j]
+    }
 }
 
 // The two largest regrets, the lower index on a tie. No branch: each of the four numbers is picked.
-fn top_two(rows: &Rows, at: &[usize; 8]) -> Top
-    requires { Placed at.now }
-    ensures { (result ≡ top_in rows.now at.now 6) × Apart result 8 }
+fn top_two(rows: &Rows, at: &Places) -> Top
+    ensures { (result ≡ top_in rows.now at.now.at 6) × Apart result 8 }
 {
-    let a0 = place(at, 0);
+    let a0 = at.place(0);
     let x0 = rows.regret[a0];
-    let a1 = place(at, 1);
+    let a1 = at.place(1);
     let x1 = rows.regret[a1];
     let s = x1 > x0;
     let mut j0 = which(s, 1, 0);
@@ -206,7 +221,7 @@ fn top_two(rows: &Rows, at: &[usize; 8]) -> Top
     let mut m0 = which(s, x1, x0);
     let mut m1 = which(s, x0, x1);
     for i in 0..6usize {
-        let k = place(at, i + 2);
+        let k = at.place(i + 2);
         let x = rows.regret[k];
         let a = x > m0;
         let b = x > m1;
@@ -219,29 +234,27 @@ fn top_two(rows: &Rows, at: &[usize; 8]) -> Top
 }
 
 // The parity of the sum of k0.
-fn parity_of(rows: &Rows, at: &[usize; 8]) -> u32
-    requires { Placed at.now }
-    ensures { (result ≡ par_in rows.now at.now 8) × (result < 2) }
+fn parity_of(rows: &Rows, at: &Places) -> u32
+    ensures { (result ≡ par_in rows.now at.now.at 8) × (result < 2) }
 {
     let mut par = 0u32;
     for j in 0..8usize {
-        let k = place(at, j);
+        let k = at.place(j);
         par += u32::from(rows.odd[k]);
     }
     par % 2
 }
 
 // Cost, packed row and distance with every coordinate at its rounding, but j0 at slot `fix`.
-fn base_at(rows: &Rows, at: &[usize; 8], j0: usize, fix: usize) -> Candidate
-    requires placed { Placed at.now }
+fn base_at(rows: &Rows, at: &Places, j0: usize, fix: usize) -> Candidate
     requires flanked { Flanked fix }
-    ensures { (result ≡ base_in rows.now at.now j0 fix 8) × (result.cost < 600000) }
+    ensures { (result ≡ base_in rows.now at.now.at j0 fix 8) × (result.cost < 600000) }
 {
     let mut cost = 0u32;
     let mut key = 0u32;
     let mut d = 0.0f64;
     for j in 0..8usize {
-        let i = 5 * place(at, j) + slot(j0, fix, j);
+        let i = 5 * at.place(j) + slot(j0, fix, j);
         cost += weight_at(rows, i);
         key = key | nibble(rank_at(rows, i), j);
         d = d + rows.dist[i];
@@ -249,83 +262,65 @@ fn base_at(rows: &Rows, at: &[usize; 8], j0: usize, fix: usize) -> Candidate
     Candidate { cost, key, dist: d }
 }
 
-// One paired step, to a candidate at distance d: coordinate j from place a to a2, coordinate j2 from place b to b2.
-fn step(
-    d: f64,
-    rows: &Rows,
-    bound: Closed,
-    n: Candidate,
-    best: Best,
-    j: usize,
-    a: usize,
-    a2: usize,
-    j2: usize,
-    b: usize,
-    b2: usize,
-) -> Best
-    requires j_bound { (j < 8) × (j2 < 8) }
-    requires a_bound { (a < 640) × (a2 < 640) }
-    requires b_bound { (b < 640) × (b2 < 640) }
-    requires b_bound_2 { get_or rows.now.weight a 0 + get_or rows.now.weight b 0 ≤ n.cost }
+// One paired step, to a candidate at distance d.
+fn step(d: f64, rows: &Rows, bound: Closed, n: Candidate, best: Best, a: Move, b: Move) -> Best
+    requires covered { get_or rows.now.weight a.from 0 + get_or rows.now.weight b.from 0 ≤ n.cost }
     requires cost_bound { n.cost < 600000 }
-    ensures { result ≡ step_in d rows.now bound n best j a a2 j2 b b2 }
+    ensures { result ≡ step_in d rows.now bound n best a.j a.from a.to b.j b.from b.to }
 {
     if d >= best.d {
         return best;
     }
-    let cost = n.cost - weight_at(rows, a) - weight_at(rows, b)
-        + weight_at(rows, a2)
-        + weight_at(rows, b2);
-    let key = key_moved(n.key, j, rank_at(rows, a2), j2, rank_at(rows, b2));
+    let cost = n.cost - weight_at(rows, a.from) - weight_at(rows, b.from)
+        + weight_at(rows, a.to)
+        + weight_at(rows, b.to);
+    let key = key_moved(n.key, a.j, rank_at(rows, a.to), b.j, rank_at(rows, b.to));
     if holds(bound, cost, key) {
         return Best { d, key, met: true };
     }
     best
 }
 
-// Both steps of coordinate j, down and up: they take the same two distances out of the base's.
+// Both steps of coordinate j from place `from`, down and up: they take the same two distances out of the base's.
 fn turn(
     rows: &Rows,
     bound: Closed,
     n: Candidate,
     best: Best,
     j: usize,
-    a: usize,
-    j2: usize,
-    b: usize,
-    b2: usize,
+    from: usize,
+    b: Move,
 ) -> Best
-    requires j_bound { (j < 8) × (j2 < 8) }
-    requires le_a { (1 ≤ a) × (a < 639) }
-    requires b_bound { (b < 640) × (b2 < 640) }
-    requires b_bound_2 { get_or rows.now.weight a 0 + get_or rows.now.weight b 0 ≤ n.cost }
+    requires place { (j < 8) × ((1 ≤ from) × (from < 639)) }
+    requires covered { get_or rows.now.weight from 0 + get_or rows.now.weight b.from 0 ≤ n.cost }
     requires cost_bound { n.cost < 600000 }
-    ensures { result ≡ turn_in rows.now bound n best j a j2 b b2 }
+    ensures { result ≡ turn_in rows.now bound n best j from b.j b.from b.to }
 {
-    let x = n.dist - rows.dist[a] - rows.dist[b];
-    let y = rows.dist[b2];
-    let d = x + rows.dist[a - 1] + y;
-    let down = step(d, rows, bound, n, best, j, a, a - 1, j2, b, b2);
-    let e = x + rows.dist[a + 1] + y;
-    step(e, rows, bound, n, down, j, a, a + 1, j2, b, b2)
+    let x = n.dist - rows.dist[from] - rows.dist[b.from];
+    let y = rows.dist[b.to];
+    let d = x + rows.dist[from - 1] + y;
+    let to = from - 1;
+    let down = step(d, rows, bound, n, best, Move { j, from, to }, b);
+    let e = x + rows.dist[from + 1] + y;
+    let to = from + 1;
+    step(e, rows, bound, n, down, Move { j, from, to }, b)
 }
 
 // The sixteen paired steps, two a turn.
 fn moves(
     rows: &Rows,
-    at: &[usize; 8],
+    at: &Places,
     top: Top,
     fix: usize,
     bound: Closed,
     n: Candidate,
     start: Best,
 ) -> Best
-    requires placed { Placed at.now }
     requires j0_bound { (top.j0 < 8) × (top.j1 < 8) }
     requires flanked { Flanked fix }
-    requires covered { Covered rows.now at.now top fix n.cost }
+    requires covered { Covered rows.now at.now.at top fix n.cost }
     requires cost_bound { n.cost < 600000 }
-    ensures { result ≡ moves_in rows.now at.now top fix bound n start 8 }
+    ensures { result ≡ moves_in rows.now at.now.at top fix bound n start 8 }
 {
     let mut best = start;
     let j0 = top.j0;
@@ -333,32 +328,33 @@ fn moves(
     for j in 0..8usize {
         let j2 = other(j, j0, j1);
         let g = slot(j0, fix, j2);
-        let a = 5 * place(at, j) + slot(j0, fix, j);
-        let i2 = place(at, j2);
-        let b = 5 * i2 + g;
-        let b2 = 5 * i2 + second(g, toward(rows.up[i2]));
-        best = turn(rows, bound, n, best, j, a, j2, b, b2);
+        let a = 5 * at.place(j) + slot(j0, fix, j);
+        let i2 = at.place(j2);
+        let b = Move {
+            j: j2,
+            from: 5 * i2 + g,
+            to: 5 * i2 + second(g, toward(rows.up[i2])),
+        };
+        best = turn(rows, bound, n, best, j, a, b);
     }
     best
 }
 
 // The slot of the least decided coordinate: its rounding, but a step toward its target where the parity is wrong.
-fn fix_of(rows: &Rows, at: &[usize; 8], want: u32, j0: usize) -> usize
-    requires placed { Placed at.now }
+fn fix_of(rows: &Rows, at: &Places, want: u32, j0: usize) -> usize
     requires j0_bound { j0 < 8 }
-    ensures { (result ≡ fix_in rows.now at.now want j0) × Flanked result }
+    ensures { (result ≡ fix_in rows.now at.now.at want j0) × Flanked result }
 {
     if parity_of(rows, at) == want {
         return 2;
     }
-    let i = place(at, j0);
+    let i = at.place(j0);
     toward(rows.up[i])
 }
 
 // The two least decided coordinates, the slot of the first, and the base that follows from it.
-fn begin(rows: &Rows, at: &[usize; 8], want: u32) -> Start
-    requires { Placed at.now }
-    ensures { (result ≡ start_in rows.now at.now want) × Ready result rows.now at.now }
+fn begin(rows: &Rows, at: &Places, want: u32) -> Start
+    ensures { (result ≡ start_in rows.now at.now.at want) × Ready result rows.now at.now.at }
 {
     let top = top_two(rows, at);
     let fix = fix_of(rows, at, want, top.j0);
@@ -383,9 +379,8 @@ fn kept(bound: Closed, n: Candidate, best: Best) -> Best
 }
 
 // One shrink: the base, then the steps.
-fn layer(rows: &Rows, at: &[usize; 8], want: u32, bound: Closed, best: Best) -> Best
-    requires { Placed at.now }
-    ensures { result ≡ layer_in rows.now at.now want bound best }
+fn layer(rows: &Rows, at: &Places, want: u32, bound: Closed, best: Best) -> Best
+    ensures { result ≡ layer_in rows.now at.now.at want bound best }
 {
     let s = begin(rows, at, want);
     let top = s.top;
@@ -421,7 +416,7 @@ fn answer(b: Best) -> Found
 pub fn solve(rows: &Rows, pattern: u8, want: u32, bound: Closed, n: usize) -> Found
     ensures { result ≡ found_of (solve_in rows.now pattern want bound n) }
 {
-    let at = places(pattern, 0);
+    let at = Places::new(pattern, 0);
     let s = begin(rows, &at, want);
     let top = s.top;
     let base = s.n;
@@ -432,7 +427,7 @@ pub fn solve(rows: &Rows, pattern: u8, want: u32, bound: Closed, n: usize) -> Fo
     }
     let mut best = moves(rows, &at, top, s.fix, bound, base, first);
     for i in 0..more(n) {
-        let to = places(pattern, i + 1);
+        let to = Places::new(pattern, i + 1);
         best = layer(rows, &to, want, bound, best);
     }
     answer(best)
@@ -441,13 +436,12 @@ pub fn solve(rows: &Rows, pattern: u8, want: u32, bound: Closed, n: usize) -> Fo
 // ---- the bases of both parities
 
 // The base with coordinate j a step toward its target: the distance loses a term and gains a term.
-fn stepped(rows: &Rows, at: &[usize; 8], s: Candidate, j: usize) -> Candidate
-    requires placed { Placed at.now }
+fn stepped(rows: &Rows, at: &Places, s: Candidate, j: usize) -> Candidate
     requires j_bound { j < 8 }
-    requires j_bound_2 { (get_or rows.now.weight (spot at.now j 2) 0 ≤ s.cost) × (s.cost < 600000) }
-    ensures { result ≡ stepped_in rows.now at.now s j }
+    requires j_bound_2 { (get_or rows.now.weight (spot at.now.at j 2) 0 ≤ s.cost) × (s.cost < 600000) }
+    ensures { result ≡ stepped_in rows.now at.now.at s j }
 {
-    let i = place(at, j);
+    let i = at.place(j);
     let a = 5 * i + 2;
     let b = 5 * i + toward(rows.up[i]);
     let cost = s.cost - weight_at(rows, a) + weight_at(rows, b);
@@ -474,7 +468,7 @@ fn base_best(bound: Closed, n: Candidate) -> Best
 fn base_pair(rows: &Rows, pattern: u8, b0: Closed, b1: Closed) -> Pair
     ensures { result ≡ pair_in rows.now pattern b0 b1 }
 {
-    let at = places(pattern, 0);
+    let at = Places::new(pattern, 0);
     let top = top_two(rows, &at);
     let n = base_at(rows, &at, 0, 2);
     let m = stepped(rows, &at, n, top.j0);
@@ -494,13 +488,5 @@ fn base_pair(rows: &Rows, pattern: u8, b0: Closed, b1: Closed) -> Pair
 pub fn pairs(rows: &Rows, bytes: &[u8; 128], b0: Closed, b1: Closed) -> [Pair; 128]
     ensures { result ≡ tab (λ (i : ℕ). pair_in rows.now (get_or bytes.now i 0) b0 b1) 128 }
 {
-    let first = Pair {
-        even: none(),
-        odd: none(),
-    };
-    let mut out = [first; 128];
-    for i in 0..128usize {
-        out[i] = base_pair(rows, bytes[i], b0, b1);
-    }
-    out
+    array::from_fn(|i| base_pair(rows, bytes[i], b0, b1))
 }

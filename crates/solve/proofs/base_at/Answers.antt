@@ -33,7 +33,7 @@ loop-j-preserved c =
       omega arith,
       (
         omega arith,
-        rw add-one (more s.rows.now s.at.now s.j0 s.fix c.loop-j.j c.loop-j.invariant.1.1
+        rw add-one (more s.rows.now s.at.now.at s.j0 s.fix c.loop-j.j c.loop-j.invariant.1.1
             c.place.ensures.0 c.slot.ensures.0 c.weight_at-cost.ensures.0 c.rank_at.ensures.0 c.nibble-key.ensures),
       ),
     )

@@ -8,4 +8,4 @@ use Rattle.solve.proofs.base_at.Given as goal
 
 abbrev pub invariant-loop-j : goal.invariant-loop-j
 invariant-loop-j l =
-    (l.j ≤ 8) × ((l.cost ≤ 65536 * l.j) × (◌≡◌ {A = Candidate} (record { cost = l.cost; key = l.key; dist = l.d }) (base_in l.rows l.at l.j0 l.fix l.j)))
+    (l.j ≤ 8) × ((l.cost ≤ 65536 * l.j) × (◌≡◌ {A = Candidate} (record { cost = l.cost; key = l.key; dist = l.d }) (base_in l.rows l.at.at l.j0 l.fix l.j)))

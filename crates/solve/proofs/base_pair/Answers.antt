@@ -35,14 +35,14 @@ pub stepped-m-requires-clause-j_bound_2 : goal.stepped-m-requires-clause-j_bound
 stepped-m-requires-clause-j_bound_2 c =
     let s = c.args in
     let j = c.top_two-top.result.j0 in
-    let h = one s.rows.now c.places-at.result 0 2 8 j c.top_two-top.ensures.1.0 in
+    let h = one s.rows.now c.new-at.result.at 0 2 8 j c.top_two-top.ensures.1.0 in
     (rw c.base_at-n.ensures.0 (rw (cond_same ℕ (eqb j 0) 2) at h), c.base_at-n.ensures.1)
 
 pub returns-then-parity_of-eq0 : goal.returns-then-parity_of-eq0
 returns-then-parity_of-eq0 c =
     let s = c.args in
     even s.rows.now s.pattern s.b0 s.b1
-    c.places-at.ensures.0 c.top_two-top.ensures.0 c.base_at-n.ensures.0
+    c.new-at.ensures c.top_two-top.ensures.0 c.base_at-n.ensures.0
     c.stepped-m.ensures c.parity_of.ensures.0 c.if-parity_of-eq0.true c.base_best.ensures
     c.base_best-then-parity_of-eq0.ensures
 
@@ -52,5 +52,5 @@ returns c =
     let h : c.parity_of.result ≡ 1 = omega
     (arith, c.if-parity_of-eq0.false, c.parity_of.ensures.1) in
     other s.rows.now s.pattern s.b0 s.b1
-    c.places-at.ensures.0 c.top_two-top.ensures.0 c.base_at-n.ensures.0
+    c.new-at.ensures c.top_two-top.ensures.0 c.base_at-n.ensures.0
     c.stepped-m.ensures c.parity_of.ensures.0 h c.base_best-2.ensures c.base_best-3.ensures

@@ -38,14 +38,14 @@ pub returns : goal.returns
 returns c =
     let s = c.args in
     let a = c.top_two-top.ensures.1 in (
-      begun s.rows.now s.at.now s.want
+      begun s.rows.now s.at.now.at s.want
           c.top_two-top.ensures.0 c.fix_of-fix.ensures.0 c.base_at-n.ensures.0,
       (
         (a.0, a.1.0),
         (
           c.fix_of-fix.ensures.1,
           (
-            covered s.rows.now s.at.now c.top_two-top.result c.fix_of-fix.result a
+            covered s.rows.now s.at.now.at c.top_two-top.result c.fix_of-fix.result a
                 c.base_at-n.ensures.0,
             c.base_at-n.ensures.1,
           ),

@@ -20,5 +20,5 @@ layered rows at want bound best hs hb hx = rw (hx, hb, hs)
 pub returns : goal.returns
 returns c =
     let s = c.args in
-    layered s.rows.now s.at.now s.want s.bound s.best
+    layered s.rows.now s.at.now.at s.want s.bound s.best
     c.begin-s.ensures.0 c.kept-b.ensures c.moves.ensures

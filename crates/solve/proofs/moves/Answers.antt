@@ -39,17 +39,17 @@ pub loop-j-init : goal.loop-j-init
 unfolding moves_in
 loop-j-init c = search rules
 
-pub turn-best-requires-clause-b_bound_2 : goal.turn-best-requires-clause-b_bound_2
-turn-best-requires-clause-b_bound_2 c =
+pub turn-best-requires-clause-covered : goal.turn-best-requires-clause-covered
+turn-best-requires-clause-covered c =
     let s = c.args in
-    covered s.rows.now s.at.now s.top s.fix c.loop-j.j s.n.cost (c.requires.covered c.loop-j.j c.loop-j-test.true)
+    covered s.rows.now s.at.now.at s.top s.fix c.loop-j.j s.n.cost (c.requires.covered c.loop-j.j c.loop-j-test.true)
     c.other-j2.ensures.0 c.place.ensures.0 c.slot.ensures.0 c.slot-g.ensures.0 c.place-i2.ensures.0
 
 pub loop-j-preserved : goal.loop-j-preserved
 loop-j-preserved c =
     let s = c.args in (
       omega arith,
-      rw add-one (moved s.rows.now s.at.now s.top s.fix s.bound s.n s.start
+      rw add-one (moved s.rows.now s.at.now.at s.top s.fix s.bound s.n s.start
           c.loop-j.j c.loop-j.invariant.1 c.other-j2.ensures.0 c.place.ensures.0 c.slot.ensures.0 c.slot-g.ensures.0 c.place-i2.ensures.0
           c.toward.ensures.0 c.second.ensures.0 c.turn-best.ensures),
     )

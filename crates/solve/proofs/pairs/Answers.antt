@@ -1,18 +1,17 @@
--- `solve::pairs` meets its contract. The invariant: the first i pairs are made. Assumes nothing.
-use Prim.Native.Nat.{ℕ}
-use mathlib.Core.Path.{◌≡◌}
-use lib.ListN.{get_or}
-use Rattle.laws.specs.Laws.Lists.{filled}
+-- `solve::pairs` meets its contract: each call gives a pair. Assumes nothing.
+use Rattle.std.proofs.Common.{ℕ, get_or, rules}
+use Rattle.laws.specs.Laws.Made.{made}
+use Rattle.search.specs.Solve.{unmet}
 use Rattle.solve.specs.declared.Pair.{Pair}
 use Rattle.solve.specs.Inner.Flat.{pair_in}
-use native.Mathlib.Omega.{arith}
-use Rattle.solve.proofs.pairs.Invariants.{past}
 use Rattle.solve.proofs.pairs.Goals as goal
+
+-- what stands past the end
+past : Pair
+past = record { even = unmet; odd = unmet }
 
 pub returns : goal.returns
 returns c =
-    let e : c.loop-i.i ≡ 128 = omega arith in
-    let i = c.loop-i.invariant in
     let s = c.args in
-    filled Pair past 128 (λ (k : ℕ). pair_in s.rows.now
-    (get_or s.bytes.now k 0) s.b0 s.b1) c.loop-i.out i.1.0 (rw e at i.1.1)
+    made _ _ (λ (i : ℕ). pair_in s.rows.now (get_or s.bytes.now i 0) s.b0 s.b1) c.from_fn.result 128 (λ i y q l e. search rules)
+    past c.from_fn.ensures.items

@@ -5,4 +5,4 @@ use Rattle.solve.specs.Inner.Flat.{par_in}
 use Rattle.solve.proofs.parity_of.Given as goal
 
 abbrev pub invariant-loop-j : goal.invariant-loop-j
-invariant-loop-j l = (l.j ≤ 8) × ((l.par ≤ 256 * l.j) × (l.par % 2 ≡ par_in l.rows l.at l.j))
+invariant-loop-j l = (l.j ≤ 8) × ((l.par ≤ 256 * l.j) × (l.par % 2 ≡ par_in l.rows l.at.at l.j))

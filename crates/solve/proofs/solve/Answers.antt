@@ -45,7 +45,7 @@ pub returns-then-first : goal.returns-then-first
 returns-then-first c =
     let s = c.args in
     met_first s.rows.now s.pattern s.want s.bound
-    c.places-at.ensures.0 c.begin-s.ensures.0 c.none-start.ensures c.kept-first.ensures
+    c.new-at.ensures c.begin-s.ensures.0 c.none-start.ensures c.kept-first.ensures
     s.n c.if-first.true c.answer.ensures
 
 pub loop-i-init : goal.loop-i-init
@@ -53,7 +53,7 @@ loop-i-init c =
     let s = c.args in (
       omega arith,
       zeroth s.rows.now s.pattern s.want s.bound
-          c.places-at.ensures.0 c.begin-s.ensures.0 c.none-start.ensures c.kept-first.ensures
+          c.new-at.ensures c.begin-s.ensures.0 c.none-start.ensures c.kept-first.ensures
           c.moves-best.ensures,
     )
 
@@ -62,7 +62,7 @@ loop-i-preserved c =
     let s = c.args in (
       omega arith,
       rw add-one (next s.rows.now s.pattern s.want
-          s.bound c.loop-i.i c.places-to.ensures.0 c.loop-i.invariant.1 c.layer-best.ensures),
+          s.bound c.loop-i.i c.new-to.ensures c.loop-i.invariant.1 c.layer-best.ensures),
     )
 
 pub returns : goal.returns
@@ -70,6 +70,6 @@ returns c =
     let s = c.args in
     let e : c.loop-i.i ≡ c.more-i-end.result = omega arith in
     unmet-first s.rows.now s.pattern s.want s.bound
-    c.places-at.ensures.0 c.begin-s.ensures.0 c.none-start.ensures c.kept-first.ensures
+    c.new-at.ensures c.begin-s.ensures.0 c.none-start.ensures c.kept-first.ensures
     s.n c.if-first.false
     (rw (e, c.more-i-end.ensures.0) at c.loop-i.invariant.1) c.answer-2.ensures

@@ -27,12 +27,12 @@ module _ (d : Float) (rows : Rows) (bound : Closed) (n : Candidate) (best : Best
 pub returns-then-d-best : goal.returns-then-d-best
 returns-then-d-best c =
     let s = c.args in
-    far s.d s.rows.now s.bound s.n s.best s.j s.a s.a2 s.j2 s.b s.b2 c.if-d-best.true
+    far s.d s.rows.now s.bound s.n s.best s.a.j s.a.from s.a.to s.b.j s.b.from s.b.to c.if-d-best.true
 
 pub returns-then-holds : goal.returns-then-holds
 returns-then-holds c =
     let s = c.args in
-    near s.d s.rows.now s.bound s.n s.best s.j s.a s.a2 s.j2 s.b s.b2
+    near s.d s.rows.now s.bound s.n s.best s.a.j s.a.from s.a.to s.b.j s.b.from s.b.to
     c.if-d-best.false
     (simp (
       c.weight_at.ensures.0,
@@ -46,7 +46,7 @@ returns-then-holds c =
 pub returns : goal.returns
 returns c =
     let s = c.args in
-    near s.d s.rows.now s.bound s.n s.best s.j s.a s.a2 s.j2 s.b s.b2
+    near s.d s.rows.now s.bound s.n s.best s.a.j s.a.from s.a.to s.b.j s.b.from s.b.to
     c.if-d-best.false
     (simp (
       c.weight_at.ensures.0,

@@ -23,6 +23,6 @@ made rows at s j hi hf ha hb hx hk = rw (hk, hx, hb, ha, hf, hi)
 pub returns : goal.returns
 returns c =
     let s = c.args in
-    made s.rows.now s.at.now s.s s.j c.place-i.ensures.0
+    made s.rows.now s.at.now.at s.s s.j c.place-i.ensures.0
     c.toward.ensures.0 c.weight_at.ensures.0 c.weight_at-2.ensures.0
     c.rank_at.ensures.0 c.key_set-key.ensures

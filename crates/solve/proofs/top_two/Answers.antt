@@ -65,7 +65,7 @@ unfolding top_in
 loop-i-init c =
     let s = c.args in (
       omega arith,
-      started s.rows.now s.at.now c.place-a0.ensures.0 c.place-a1.ensures.0 c.which-j0.ensures c.which-j1.ensures c.which-m0.ensures
+      started s.rows.now s.at.now.at c.place-a0.ensures.0 c.place-a1.ensures.0 c.which-j0.ensures c.which-j1.ensures c.which-m0.ensures
           c.which-m1.ensures,
     )
 
@@ -74,7 +74,7 @@ loop-i-preserved c =
     let l = c.loop-i in
     let s = c.args in (
       omega arith,
-      rw add-one (turned s.rows.now s.at.now l.i l.invariant.1.0 l.invariant.1.1.0 l.invariant.1.1.1
+      rw add-one (turned s.rows.now s.at.now.at l.i l.invariant.1.0 l.invariant.1.1.0 l.invariant.1.1.1
           c.place-k.ensures.0 c.which.ensures c.which-j1-in-loop-i.ensures c.which-in-loop-i.ensures c.which-m1-in-loop-i.ensures
           c.which-j0-in-loop-i.ensures c.which-m0-in-loop-i.ensures),
     )
@@ -83,4 +83,4 @@ pub returns : goal.returns
 returns c =
     let s = c.args in
     let e : c.loop-i.i ≡ 6 = omega arith in
-    let q = rw e at c.loop-i.invariant.1.0 in (q, rw (← q) at (apart s.rows.now s.at.now 6))
+    let q = rw e at c.loop-i.invariant.1.0 in (q, rw (← q) at (apart s.rows.now s.at.now.at 6))

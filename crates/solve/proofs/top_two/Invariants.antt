@@ -8,4 +8,4 @@ use Rattle.solve.proofs.top_two.Given as goal
 
 abbrev pub invariant-loop-i : goal.invariant-loop-i
 invariant-loop-i l =
-    (l.i ≤ 6) × ((◌≡◌ {A = Top} (record { j0 = l.j0; j1 = l.j1 }) (top_in l.rows l.at l.i)) × ((l.m0 ≡ regret_at l.rows l.at l.j0) × (l.m1 ≡ regret_at l.rows l.at l.j1)))
+    (l.i ≤ 6) × ((◌≡◌ {A = Top} (record { j0 = l.j0; j1 = l.j1 }) (top_in l.rows l.at.at l.i)) × ((l.m0 ≡ regret_at l.rows l.at.at l.j0) × (l.m1 ≡ regret_at l.rows l.at.at l.j1)))

@@ -18,5 +18,5 @@ both rows bound n best j a j2 b b2 d u = rw (u, d)
 pub returns : goal.returns
 returns c =
     let s = c.args in
-    both s.rows.now s.bound s.n s.best s.j s.a s.j2 s.b s.b2
+    both s.rows.now s.bound s.n s.best s.j s.from s.b.j s.b.from s.b.to
     c.step-down.ensures c.step.ensures
