@@ -1,14 +1,16 @@
 -- THE ROOT: the computed double is the nearest to the exact root, and no other double is. The steps are in Laws.antt. Assumes nothing.
-use Rattle.std.specs.Prelude.{◌≡◌, true, false, ℕ, zero, suc, ◌≤◌, ◌<◌, T, Float, Result, Ok, Err, refl}
+use Rattle.std.specs.Prelude.{◌≡◌, true, false, ℕ, zero, suc, ◌≤◌, ◌<◌, T, Float, Result, Ok, Err, refl, ◌⊎◌}
 use Rattle.std.specs.Result.{result_unwrap_or}
-use Rattle.std.proofs.Common.{sym, ◌∙◌, subst, true≢false, le_antisymm, lt_of_not-le, le_of_suc-le-suc, lt_irrefl}
+use Rattle.std.proofs.Common.{ap, inl, inr, arith, sym, ◌∙◌, subst, true≢false, le_antisymm, lt_of_not-le, le_of_suc-le-suc, lt_irrefl}
 use Rattle.std.specs.Float.{nan, inf, fin, binary64}
 use Rattle.std.specs.Float.Ieee.{fits}
 use Rattle.std.specs.Float.Ieee.Scale.{finite}
 use Rattle.refusal.specs.declared.Refusal.{Refusal}
+use Rattle.refusal.specs.Refusal.{number_of}
+use Rattle.refusal.proofs.Apart.{told_by_number, told_at_all}
 use Rattle.float.specs.Value.{mag_units, is_minus, zero64}
 use Rattle.float.specs.Laws.Exact.{same_units, zero-fits, no_digits, some-digits}
-use Rattle.root.specs.Root.{NearestRoot, whole_root, root_of, rooted_by, rooted}
+use Rattle.root.specs.Root.{NearestRoot, whole_root, root_of, Rooted, rooted_by, rooted}
 use Rattle.root.specs.Laws.{leading, dropped, cut, floor_is, low_digits, high_digits, held-root, nearest_of, not_less}
 
 -- ---- of a finite double above zero, the computed root is the nearest
@@ -49,3 +51,27 @@ rooted-finite (fin false (suc m) e) f =
 pub root_or_zero : (r : Result Float Refusal) → result_unwrap_or r zero64 ≡ (rooted_by r).root
 root_or_zero (Ok x) = refl
 root_or_zero (Err e) = refl
+
+-- the number of an answer is 0 or 7, so that no second one fits
+number_is : (x : Float) → ((rooted x).number ≡ 0) ⊎ ((rooted x).number ≡ 7)
+unfolding rooted
+number_is nan = inr refl
+number_is (inf s) = inr refl
+number_is (fin s zero e) = inl refl
+number_is (fin true (suc m) e) = inr refl
+number_is (fin false (suc m) e) = inl refl
+
+pub one_answer : (x : Float) (a b : Result Float Refusal) → rooted_by a ≡ rooted x → rooted_by b ≡ rooted x → a ≡ b
+one_answer x (Ok a) (Ok b) p q = let ok : Float → Result Float Refusal = λ r. Ok r in ap (λ (r : Rooted). ok r.root) (p ∙ sym q)
+one_answer x (Ok a) (Err s) p q = absurd (told_at_all s (sym (ap (λ (r : Rooted). r.number) (p ∙ sym q))))
+one_answer x (Err r) (Ok b) p q = absurd (told_at_all r (ap (λ (z : Rooted). z.number) (p ∙ sym q)))
+one_answer x (Err r) (Err s) p q =
+    let err : Refusal → Result Float Refusal = λ z. Err z in
+    ap err (told_by_number r s (ap (λ (z : Rooted). z.number) (p ∙ sym q)) (not_eleven (number_is x)))
+  where
+    told : number_of s ≡ (rooted x).number
+    told = ap (λ (z : Rooted). z.number) q
+
+    not_eleven : ((rooted x).number ≡ 0) ⊎ ((rooted x).number ≡ 7) → number_of s ≡ 11 → ⊥
+    not_eleven (inl h) e = omega (arith, told, h, e)
+    not_eleven (inr h) e = omega (arith, told, h, e)

@@ -42,6 +42,7 @@ fn taken_apart(x: f64) -> Parts
 }
 
 // The same with an even k, so that 2^k has a root.
+#[tactic(auto, using(crate::proofs::Loops::even_odd))]
 fn evened(p: Parts) -> Parts
     requires { p.m < 2 ^ 53 }
     ensures { Even p.m p.k result.m result.k }
@@ -55,7 +56,7 @@ fn evened(p: Parts) -> Parts
     }
 }
 
-// m * 4^h with enough digits for a root of 53, and that h.
+// m * 4^h with enough digits for a root of 53, and that h. A while loop: it ends by the size of n, and h is what it answers, no index.
 fn raised(m: u64) -> Parts
     requires { (0 < m) × (m < 2 ^ 54) }
     ensures { Raised m result.m result.k }
