@@ -31,26 +31,26 @@ fn with_rank(row: u32, j: u32, r: u32) -> u32
     row | (r << (4 * j))
 }
 
-// Writes the vectors that begin with the ranks in `row`, whose cost is `spent`, the last `left` coordinates still open, from the cell `n`
-// on, and answers the cell after them. A rank that takes the cost to the cap ends the loop: costs rise with the rank, and a coordinate
-// that is still open costs at least 1.
-fn under_cap(out: &mut [u32], n: usize, row: u32, left: u32, spent: u32) -> usize
-    requires { (left ≤ 8) × (spent < 128) × (row < 2 ^ (4 * (8 - left))) × (n + length (under left row spent) ≤ length out.old) }
-    ensures { (result ≡ n + length (under left row spent)) × (out.new ≡ sets out.old n (under left row spent)) }
+// Writes the vectors that begin with the ranks in `row`, whose cost is `spent`, the last `left` coordinates still open, at the start of `out`,
+// and answers how many they are. A rank that takes the cost to the cap ends the loop: costs rise with the rank, and a coordinate that is
+// still open costs at least 1.
+fn under_cap(out: &mut [u32], row: u32, left: u32, spent: u32) -> usize
+    requires { (left ≤ 8) × (spent < 128) × (row < 2 ^ (4 * (8 - left))) × (length (under left row spent) ≤ length out.old) }
+    ensures { (result ≡ length (under left row spent)) × (out.new ≡ sets out.old 0 (under left row spent)) }
 {
     if left == 0 {
-        out[n] = row;
-        return n + 1;
+        out[0] = row;
+        return 1;
     }
     let rest = left - 1;
-    let mut at = n;
+    let mut at = 0;
     for r in 0..16u32 {
         let cost = spent + square(r);
         if COST_CAP <= cost + rest {
             break;
         }
         let next = with_rank(row, 7 - rest, r);
-        at = under_cap(out, at, next, rest, cost);
+        at += under_cap(&mut out[at..], next, rest, cost);
     }
     at
 }
@@ -63,6 +63,6 @@ pub fn list(out: &mut [u32]) -> Result<usize, Refusal>
     if out.len() < CELLS {
         return Err(Refusal::NoRoom);
     }
-    let count = under_cap(out, 0, 0, 8, 0);
+    let count = under_cap(out, 0, 8, 0);
     Ok(count)
 }
