@@ -86,6 +86,7 @@ impl Fields {
     }
 
     // The word of the fields. A field that does not fit its width is refused: cut to its width, it would name another point.
+    #[tactic(auto, unfolding(crate::specs::Word::join_of))]
     pub fn join(self) -> Result<u64, Refusal>
         ensures { joined_by result ≡ join_of self }
     {
