@@ -14,6 +14,7 @@ ghost use Rattle.join.specs.Inner.{InRange};
 use search::{Bounds, Sides, Way};
 
 // The middle entry of path t out of end entry i1: eight states in a row have the same sixteen branches, and there are two entries to a branch.
+#[tactic(auto, using(crate::specs::Laws::mid_is))]
 fn mid_at(i1: usize, t: usize) -> usize
     requires { t < 32 }
     ensures { (result ≡ mid_at tables i1 t) × (result < 256) }
@@ -79,6 +80,7 @@ impl<'a> Paths<'a> {
     }
 
     // The best of a way and the 32 paths out of end entry i1, replaced on strictly less.
+    #[tactic(auto, using(crate::proofs::Steps::row_more), unfolding(search::specs::Join::row_to))]
     fn row(&self, i1: usize, way: Way) -> Way
         requires { i1 < 128 }
         ensures { result ≡ row_to tables self.now.p self.now.sides.now i1 way 32 }
