@@ -72,6 +72,7 @@ fn low_rank(key: u32, j: usize) -> usize
 }
 
 // The squared distance to the target of the section of byte c and packed row key.
+#[tactic(auto, unfolding(crate::specs::Inner::Flat::sum_to))]
 fn dist_to(squares: &[f64; 64], c: u8, key: u32) -> f64
     ensures { result ≡ sum_to squares.now c key 8 }
 {

@@ -72,12 +72,14 @@ const FALLBACK_KEYS: [u32; 512] = [
     1, 1, 1, 1, 1, 1, 1, 1, 1, 1, 1, 1, 1, 1, 1, 1, 1, 1, 1, 1, 1, 1, 1, 1, 1, 1, 1, 1, 1, 1, 1,
 ];
 
+#[tactic(auto, unfolding(search::specs::Tables::fallback_bytes))]
 pub(crate) fn fallback_bytes() -> &'static [u8; 512]
     ensures { result.now ≡ fallback_bytes }
 {
     &FALLBACK_BYTES
 }
 
+#[tactic(auto, unfolding(search::specs::Tables::fallback_keys))]
 pub(crate) fn fallback_keys() -> &'static [u32; 512]
     ensures { result.now ≡ fallback_keys }
 {
