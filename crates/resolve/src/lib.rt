@@ -165,7 +165,8 @@ fn mid_start(q: Pair, d: usize, c: u8) -> Entry
 }
 
 // ---- resolved in full
-// A member that is strictly nearer replaces the entry.
+// A member that a search met replaces the entry where it is strictly nearer. Not one function with `nearer`: a search that met none has no
+// distance, a base always has one.
 fn better(e: Entry, f: Found, c: u8) -> Entry
     ensures { result ≡ better_by e f c }
 {
@@ -185,7 +186,7 @@ fn end_resolve(rows: &Rows, f: Entry, r: usize, c0: u8, c1: u8, n: usize) -> Ent
     better(e, solve::solve(rows, c1, r as u32, b, n), c1)
 }
 
-// What a search answered, as an entry.
+// What a search answered, as an entry. Not `better` of an infeasible one: that passes over a distance that is not finite.
 fn mid_of(f: Found, c: u8) -> Entry
     ensures { result ≡ mid_by f c }
 {

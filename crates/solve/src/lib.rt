@@ -60,7 +60,7 @@ fn which<T: Copy>(c: bool, a: T, b: T) -> T
     if c { a } else { b }
 }
 
-// The slot a step toward the target.
+// The slot a step toward the target. That a slot has neighbours is a clause and no type: a slot is a term of a sum in the line after.
 fn toward(up: bool) -> usize
     ensures { (result ≡ cond up 3 1) × Flanked result }
 {
