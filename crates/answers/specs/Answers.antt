@@ -9,13 +9,10 @@ use Rattle.text.specs.Lines.{onRead}
 use Rattle.tetra.specs.Tetra.{point_of}
 use Rattle.tetra.specs.Encode.{encode_of}
 use Rattle.tetra.specs.declared.Encoded.{Encoded}
-use Rattle.score.specs.Score.{scored}
-use Rattle.score.specs.Scale.{scales}
-use Rattle.score.specs.declared.Scored.{Scored}
-use Rattle.score.specs.declared.Scales.{Scales}
+use Rattle.score.specs.Score.{Scored, scored}
+use Rattle.score.specs.Scale.{Measured, scales}
 use Rattle.search.specs.Parity.{both_parities}
-use Rattle.encoder.specs.Encode.{encode_at_over, encode_over}
-use Rattle.encoder.specs.declared.Code.{Code}
+use Rattle.encoder.specs.Encode.{Coding, encode_at_over, encode_over}
 use Rattle.request.specs.Words.{after_name, last_of, hex_after, decimal_after, double_after}
 use Rattle.request.specs.Rows.{samples_after, point_after}
 
@@ -43,12 +40,12 @@ refused_point number section =
 unfoldable pub encoded_line : Encoded → List ℕ
 encoded_line e = cond (eqb e.number 0) (line (bytes "word=") (hex 12 e.word)) (refused_point e.number e.section)
 
-unfoldable pub code_line : Code → List ℕ
+unfoldable pub code_line : Coding → List ℕ
 code_line c =
     by_number c.number
     (bytes "word=" ++ (hex 12 c.word ++ (bytes " score=" ++ (double_text c.score ++ line (bytes " point=") (listed c.point)))))
 
-unfoldable pub scales_line : Scales → List ℕ
+unfoldable pub scales_line : Measured → List ℕ
 scales_line l = by_number l.number (bytes "max=" ++ (double_text l.largest ++ line (bytes " scale=") (double_text l.scale)))
 
 unfoldable pub score_line : Scored → List ℕ

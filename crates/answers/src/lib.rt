@@ -19,12 +19,16 @@ ghost use Rattle.std.specs.Prelude.{◌≡◌};
 ghost use Rattle.text.specs.Text.{refused_text};
 ghost use Rattle.search.specs.Parity.{parities_of};
 ghost use Rattle.answers.specs.Answers.{no_request, point_line, refused_point, encoded_line, code_line, scales_line, score_line};
+ghost use Rattle.score.specs.Scale.{measured_by};
+ghost use Rattle.score.specs.Score.{scored_by};
+ghost use Rattle.encoder.specs.Encode.{coded_by};
 ghost use Rattle.answers.specs.Answers.{decode_answer, point_answer, setting_of, scale_over, auto_over, lower_answer, score_answer};
 ghost use Rattle.answers.specs.Answers.{of_samples, answer_of};
 
 use encoder::Code;
+use refusal::Refusal;
 use request::{after_name, last, read_decimal, read_double, read_hex, read_point, read_samples};
-use score::{Scales, Scored};
+use score::Scales;
 use tetra::Encoded;
 use text::Printed;
 
@@ -85,12 +89,13 @@ pub fn word_line(e: Encoded) -> Reply
     line
 }
 
-fn code_line(c: Code) -> Reply
-    ensures { result ≡ code_line c }
+fn code_line(answer: Result<Code, Refusal>) -> Reply
+    ensures { result ≡ code_line (coded_by answer) }
 {
-    if c.number != 0 {
-        return refused(c.number);
-    }
+    let c = match answer {
+        Ok(c) => c,
+        Err(r) => return refused(r.number()),
+    };
     let mut line = Reply::new();
     line.put(b"word=");
     line.put_hex(c.word, 12);
@@ -102,12 +107,13 @@ fn code_line(c: Code) -> Reply
     line
 }
 
-fn scales_line(l: Scales) -> Reply
-    ensures { result ≡ scales_line l }
+fn scales_line(answer: Result<Scales, Refusal>) -> Reply
+    ensures { result ≡ scales_line (measured_by answer) }
 {
-    if l.number != 0 {
-        return refused(l.number);
-    }
+    let l = match answer {
+        Ok(l) => l,
+        Err(r) => return refused(r.number()),
+    };
     let mut line = Reply::new();
     line.put(b"max=");
     line.put_double(l.largest);
@@ -117,15 +123,16 @@ fn scales_line(l: Scales) -> Reply
     line
 }
 
-fn score_line(t: Scored) -> Reply
-    ensures { result ≡ score_line t }
+fn score_line(answer: Result<f64, Refusal>) -> Reply
+    ensures { result ≡ score_line (scored_by answer) }
 {
-    if t.number != 0 {
-        return refused(t.number);
-    }
+    let t = match answer {
+        Ok(t) => t,
+        Err(r) => return refused(r.number()),
+    };
     let mut line = Reply::new();
     line.put(b"score=");
-    line.put_double(t.score);
+    line.put_double(t);
     line.put(b"\n");
     line
 }

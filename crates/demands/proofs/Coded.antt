@@ -22,14 +22,13 @@ use Rattle.search.specs.Parity.{Winner}
 use Rattle.search.specs.Block.{winner_for, point_from}
 use Rattle.nearest.specs.OnPoint.{origin}
 use Rattle.members.specs.Accepted.{Accepted}
-use Rattle.encoder.specs.declared.Code.{Code}
-use Rattle.encoder.specs.Encode.{zero_code, code_of, code_for, number_at, encode_at_over, higher, two_scales, scaled_back, code_at, number_of, encode_over}
+use Rattle.encoder.specs.Encode.{Coding, zero_code, code_of, code_for, number_at, encode_at_over, higher, two_scales, scaled_back, code_at, number_of, encode_over}
 use Rattle.encoder.specs.Numbers.{zero_says, at-accepted, is_accepted}
 use Rattle.demands.specs.Promised.{Coded}
 use Rattle.demands.specs.Laws.Number.{accepted, first_fits, second_fits, quotients_fit}
 
 -- coded, with a point that has the property Q
-abbrev pub CodedWith : (List ℤ → Type 0) → Code → Type 0
+abbrev pub CodedWith : (List ℤ → Type 0) → Coding → Type 0
 CodedWith Q c = Coded c × Q c.point
 
 -- ---- the code of a winner whose point has a word
@@ -59,14 +58,14 @@ zeros t =
     small = omega arith
 
 -- the score is not part of it
-back : (m : Float) (c : Code) → Coded c → Coded (scaled_back m c)
+back : (m : Float) (c : Coding) → Coded c → Coded (scaled_back m c)
 back m c k = record { number = k.number; small = k.small; back = k.back; again = k.again }
 
 -- ---- over the parities ps, for which the point of every accepted target has a word and the property Q, as 24 zeros have
 module _ (ps : List ℕ) (Q : List ℤ → Type 0) (zero : Q origin)
     (W : (t : List Float) → Accepted t → (n : ℕ) → HasWord (point_from (winner_for ps n t)))
     (K : (t : List Float) → Accepted t → (n : ℕ) → Q (point_from (winner_for ps n t))) where
-  either : (a b : Code) → CodedWith Q a → CodedWith Q b → CodedWith Q (higher a b)
+  either : (a b : Coding) → CodedWith Q a → CodedWith Q b → CodedWith Q (higher a b)
   either a b i j = go (lt a.score b.score)
     where
       go : (t : Bool) → CodedWith Q (cond t b a)

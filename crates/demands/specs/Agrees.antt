@@ -14,8 +14,7 @@ use Rattle.search.specs.Parity.{Winner, both_parities, even_parities}
 use Rattle.search.specs.Block.{rule_of, targets_of, winner_for}
 use Rattle.search.proofs.Parity.{even_stays}
 use Rattle.members.proofs.Members.{parity_is}
-use Rattle.encoder.specs.declared.Code.{Code}
-use Rattle.encoder.specs.Encode.{code_of, code_for, number_at, encode_at_over, encode_at_scale}
+use Rattle.encoder.specs.Encode.{Coding, code_of, code_for, number_at, encode_at_over, encode_at_scale}
 use Rattle.encoder.specs.Numbers.{zero_says, at-accepted, at-refused}
 use Rattle.demands.specs.Promised.{Even}
 use Rattle.demands.specs.Laws.Number.{accepted}
@@ -43,5 +42,5 @@ module _ (x : List Float) (s : Float) (n : ℕ) (l : length x ≡ 24) (f : AllFi
           let e = eqb-true (number_at x s n) 0 q in
           let a = at-accepted both_parities x s n e in
           at-accepted even_parities x s n e
-          ∙ same (of_winner (zero_says n (scale_number x s) e).1 (subst (λ (c : Code). Even c.point) a h)) ∙ sym a
+          ∙ same (of_winner (zero_says n (scale_number x s) e).1 (subst (λ (c : Coding). Even c.point) a h)) ∙ sym a
       go false q h = let m = eqb-false (number_at x s n) 0 q in at-refused even_parities x s n m ∙ sym (at-refused both_parities x s n m)

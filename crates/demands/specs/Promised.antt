@@ -4,22 +4,21 @@ use Rattle.tetra.specs.Tetra.{point_of}
 use Rattle.tetra.specs.Encode.{accepted_with, encode_of}
 use Rattle.tetra.specs.Why.{OfParity}
 use Rattle.score.specs.Scale.{second_scale}
-use Rattle.encoder.specs.declared.Code.{Code}
-use Rattle.encoder.specs.Encode.{number_at, encode_at_over, higher, encode_over}
+use Rattle.encoder.specs.Encode.{Coding, number_at, encode_at_over, higher, encode_over}
 
 -- all 24 coordinates are even: a point of the even profile
 abbrev pub Even : List ℤ → Type 0
 Even y = OfParity y 0
 
 -- demand 2: number 0, a word below 2 ^ 47 that decodes to the point, and a point that encodes to the word
-pub record Coded (c : Code) : Type 0 where
+pub record Coded (c : Coding) : Type 0 where
   pub number : c.number ≡ 0
   pub small : c.word < 2 ^ 47
   pub back : point_of c.word ≡ c.point
   pub again : encode_of c.point ≡ accepted_with c.word
 
 -- demand 3: number 0, the point y, and its word
-pub record Returns (y : List ℤ) (c : Code) : Type 0 where
+pub record Returns (y : List ℤ) (c : Coding) : Type 0 where
   pub number : c.number ≡ 0
   pub point : c.point ≡ y
   pub word : c.word ≡ (encode_of y).word

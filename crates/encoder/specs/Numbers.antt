@@ -9,8 +9,8 @@ use Rattle.score.specs.Scale.{choice_of, second_scale}
 use Rattle.score.specs.Choice.{choice_number}
 use Rattle.score.specs.declared.Choice.{Choice}
 use Rattle.score.specs.declared.Choice.TheVariants.{Zero, Scale, Divide}
-use Rattle.encoder.specs.declared.Code.{Code}
 use Rattle.encoder.specs.Encode.{
+  Coding,
   empty_code,
   setting_first,
   answered,
@@ -28,7 +28,7 @@ use Rattle.encoder.specs.Encode.{
 }
 
 -- ---- an answer by its number
-module _ (n k : ℕ) (c : Code) where
+module _ (n k : ℕ) (c : Coding) where
   pub no_setting : n ≡ 0 → answered (setting_first n k) c ≡ empty_code 7
   no_setting e = rw (eq-eqb n 0 e)
 
@@ -83,7 +83,7 @@ unfolding encode_at_over
 at-refused ps x s n h = answered_empty n (scale_number x s) (code_for ps x s n) h
 
 -- ---- at a choice
-either : (a b : Code) → a.number ≡ 0 → b.number ≡ 0 → (higher a b).number ≡ 0
+either : (a b : Coding) → a.number ≡ 0 → b.number ≡ 0 → (higher a b).number ≡ 0
 either a b i j = go (lt a.score b.score)
   where
     go : (t : Bool) → (cond t b a).number ≡ 0

@@ -4,25 +4,25 @@
 // works out the scale itself, tries it and 1.14 times it, and keeps the code that scores higher.
 #![tactic(auto)]
 
-ghost use Rattle.std.specs.Prelude.{◌≡◌, ◌+◌, ◌<◌, ◌≤◌, ℕ, get_or};
+ghost use Rattle.std.specs.Prelude.{◌≡◌, ◌+◌, ◌<◌, ◌≤◌, ℕ, get_or, Ok};
 ghost use Rattle.std.specs.Float.{nan};
 ghost use Rattle.laws.specs.Words.{tab};
 ghost use Rattle.rank.specs.Coord.{val_of};
 ghost use Rattle.search.specs.Entries.{section_at};
 ghost use Rattle.search.specs.Parity.{parities_of, winner_by};
 ghost use Rattle.search.specs.Block.{trio_of, winner_at, point_from, winner_for};
-ghost use Rattle.encoder.specs.Encode.{zero_code, code_of, code_for, encode_at_over, encode_at_scale};
+ghost use Rattle.refusal.specs.Refusal.{number_in};
+ghost use Rattle.encoder.specs.Encode.{coded_by, setting_first, code_of, code_for, encode_at_over, encode_at_scale};
 ghost use Rattle.encoder.specs.Encode.{higher, two_scales, scaled_back, code_at, encode_over, encode_with, encode_samples};
 ghost use Rattle.encoder.specs.Encode.{chosen_over, encode_chosen_with, encode_chosen};
 
+use refusal::Refusal;
 use score::Choice;
 use search::{Targets, Winner};
 
-// A block's code: its word (gain 0), the point in natural order, and the score. The number is 0; where it is not, the call was refused, and
-// the rest is word 0, 24 zeros, score +0.0.
+// A block's code: its word (gain 0), the point in natural order, and the score.
 #[derive(Clone, Copy)]
 pub struct Code {
-    pub number: u32,
     pub word: u64,
     pub point: [i32; 24],
     pub score: f64,
@@ -111,27 +111,24 @@ fn point_of(w: Winner) -> [i32; 24]
 }
 
 // ---- codes
-// Word 0 and 24 zeros.
-fn zero_code(number: u32, score: f64) -> Code
-    ensures { result ≡ zero_code number score }
+// Every call is refused with 7 at the setting 0, before it looks at anything else.
+fn check_setting(setting: u32) -> Result<(), Refusal>
+    ensures { number_in result ≡ setting_first setting 0 }
 {
-    Code {
-        number,
-        word: 0,
-        point: [0i32; 24],
-        score,
+    if setting == 0 {
+        return Err(Refusal::OutOfRange);
     }
+    Ok(())
 }
 
 // The point of a winner, its word and its score.
 fn code_of(samples: [f64; 24], w: Winner) -> Code
-    ensures { result ≡ code_of samples (winner_by w) }
+    ensures { coded_by (Ok result) ≡ code_of samples (winner_by w) }
 {
     let point = point_of(w);
     let e = tetra::encode(point);
     let score = score::score(samples, point);
     Code {
-        number: 0,
         word: e.word,
         point,
         score,
@@ -153,7 +150,7 @@ fn winner_for(t: [f64; 24], setting: u32, odd: bool) -> Winner
 
 // The code at a scale, with no refusal.
 fn code_for(samples: [f64; 24], scale: f64, setting: u32, odd: bool) -> Code
-    ensures { result ≡ code_for (parities_of odd) samples scale setting }
+    ensures { coded_by (Ok result) ≡ code_for (parities_of odd) samples scale setting }
 {
     code_of(
         samples,
@@ -162,36 +159,37 @@ fn code_for(samples: [f64; 24], scale: f64, setting: u32, odd: bool) -> Code
 }
 
 // The code of samples at a scale: the even profile (crate even) searches no odd points. Refused with 7 at the setting 0, then with 3, 1, 2, 4.
-pub fn encode_at_scale_over(samples: [f64; 24], scale: f64, setting: u32, odd: bool) -> Code
-    ensures { result ≡ encode_at_over (parities_of odd) samples scale setting }
+#[tactic(auto, unfolding(crate::specs::Encode::encode_at_over))]
+pub fn encode_at_scale_over(
+    samples: [f64; 24],
+    scale: f64,
+    setting: u32,
+    odd: bool,
+) -> Result<Code, Refusal>
+    ensures { coded_by result ≡ encode_at_over (parities_of odd) samples scale setting }
 {
-    if setting == 0 {
-        return zero_code(refusal::OUT_OF_RANGE, 0.0);
-    }
-    let n = score::scale_number(samples, scale);
-    if n != 0 {
-        return zero_code(n, 0.0);
-    }
-    code_for(samples, scale, setting, odd)
+    check_setting(setting)?;
+    score::check_scale(samples, scale)?;
+    Ok(code_for(samples, scale, setting, odd))
 }
 
 // The full coder's.
-pub fn encode_at_scale(samples: [f64; 24], scale: f64, setting: u32) -> Code
-    ensures { result ≡ encode_at_scale samples scale setting }
+pub fn encode_at_scale(samples: [f64; 24], scale: f64, setting: u32) -> Result<Code, Refusal>
+    ensures { coded_by result ≡ encode_at_scale samples scale setting }
 {
     encode_at_scale_over(samples, scale, setting, true)
 }
 
 // The first unless the second scores higher.
 fn higher(a: Code, b: Code) -> Code
-    ensures { result ≡ higher a b }
+    ensures { coded_by (Ok result) ≡ higher (coded_by (Ok a)) (coded_by (Ok b)) }
 {
     if a.score < b.score { b } else { a }
 }
 
 // At a scale and at 1.14 times it.
 fn two_scales(samples: [f64; 24], scale: f64, setting: u32, odd: bool) -> Code
-    ensures { result ≡ two_scales (parities_of odd) samples scale setting }
+    ensures { coded_by (Ok result) ≡ two_scales (parities_of odd) samples scale setting }
 {
     let a = code_for(samples, scale, setting, odd);
     let b = code_for(samples, score::second_scale(scale), setting, odd);
@@ -200,23 +198,24 @@ fn two_scales(samples: [f64; 24], scale: f64, setting: u32, odd: bool) -> Code
 
 // The score of samples that were divided by m.
 fn scaled_back(m: f64, c: Code) -> Code
-    ensures { result ≡ scaled_back m c }
+    ensures { coded_by (Ok result) ≡ scaled_back m (coded_by (Ok c)) }
 {
-    let point = c.point;
     Code {
-        number: c.number,
-        word: c.word,
-        point,
         score: c.score * m,
+        ..c
     }
 }
 
-// At a choice of scale.
+// At a choice of scale. Samples that are all zero have the word 0, 24 zeros, and score minus infinity.
 fn code_at(choice: Choice, samples: [f64; 24], setting: u32, odd: bool) -> Code
-    ensures { result ≡ code_at (parities_of odd) choice samples setting }
+    ensures { coded_by (Ok result) ≡ code_at (parities_of odd) choice samples setting }
 {
     match choice {
-        Choice::Zero => zero_code(0, -1.0 / 0.0),
+        Choice::Zero => Code {
+            word: 0,
+            point: [0i32; 24],
+            score: -1.0 / 0.0,
+        },
         Choice::Scale(s) => two_scales(samples, s, setting, odd),
         Choice::Divide { magnitude, scale } => scaled_back(
             magnitude,
@@ -227,29 +226,25 @@ fn code_at(choice: Choice, samples: [f64; 24], setting: u32, odd: bool) -> Code
 
 // The code of samples at the scale that they give, at a setting of the shrinks; for the even profile too. Refused with 7 at the setting 0, then
 // with 1, 2.
-pub fn encode_with_over(samples: [f64; 24], setting: u32, odd: bool) -> Code
-    ensures { result ≡ encode_over (parities_of odd) samples setting }
+#[tactic(auto, unfolding(crate::specs::Encode::encode_over))]
+pub fn encode_with_over(samples: [f64; 24], setting: u32, odd: bool) -> Result<Code, Refusal>
+    ensures { coded_by result ≡ encode_over (parities_of odd) samples setting }
 {
-    if setting == 0 {
-        return zero_code(refusal::OUT_OF_RANGE, 0.0);
-    }
-    let n = score::sample_number(samples);
-    if n != 0 {
-        return zero_code(n, 0.0);
-    }
-    code_at(score::choice_of(samples), samples, setting, odd)
+    check_setting(setting)?;
+    score::check_samples(samples)?;
+    Ok(code_at(score::choice_of(samples), samples, setting, odd))
 }
 
 // The full coder's.
-pub fn encode_with(samples: [f64; 24], setting: u32) -> Code
-    ensures { result ≡ encode_with samples setting }
+pub fn encode_with(samples: [f64; 24], setting: u32) -> Result<Code, Refusal>
+    ensures { coded_by result ≡ encode_with samples setting }
 {
     encode_with_over(samples, setting, true)
 }
 
 // The production call: the code of samples at the scale that they give.
-pub fn encode(samples: [f64; 24]) -> Code
-    ensures { result ≡ encode_samples samples }
+pub fn encode(samples: [f64; 24]) -> Result<Code, Refusal>
+    ensures { coded_by result ≡ encode_samples samples }
 {
     encode_with(samples, SETTING)
 }
@@ -258,29 +253,30 @@ pub fn encode(samples: [f64; 24]) -> Code
 
 // The code of samples at a choice of scale, which may be that of other samples (`score::choose` makes it), both of its scales tried; for the even
 // profile too. Refused with 7 at the setting 0, then with 3, 1, 2, 4.
-pub fn encode_chosen_over(choice: Choice, samples: [f64; 24], setting: u32, odd: bool) -> Code
-    ensures { result ≡ chosen_over (parities_of odd) choice samples setting }
+#[tactic(auto, unfolding(crate::specs::Encode::chosen_over))]
+pub fn encode_chosen_over(
+    choice: Choice,
+    samples: [f64; 24],
+    setting: u32,
+    odd: bool,
+) -> Result<Code, Refusal>
+    ensures { coded_by result ≡ chosen_over (parities_of odd) choice samples setting }
 {
-    if setting == 0 {
-        return zero_code(refusal::OUT_OF_RANGE, 0.0);
-    }
-    let n = score::choice_number(choice, samples);
-    if n != 0 {
-        return zero_code(n, 0.0);
-    }
-    code_at(choice, samples, setting, odd)
+    check_setting(setting)?;
+    score::check_choice(choice, samples)?;
+    Ok(code_at(choice, samples, setting, odd))
 }
 
 // The full coder's.
-pub fn encode_chosen_with(choice: Choice, samples: [f64; 24], setting: u32) -> Code
-    ensures { result ≡ encode_chosen_with choice samples setting }
+pub fn encode_chosen_with(choice: Choice, samples: [f64; 24], setting: u32) -> Result<Code, Refusal>
+    ensures { coded_by result ≡ encode_chosen_with choice samples setting }
 {
     encode_chosen_over(choice, samples, setting, true)
 }
 
 // With no setting.
-pub fn encode_chosen(choice: Choice, samples: [f64; 24]) -> Code
-    ensures { result ≡ encode_chosen choice samples }
+pub fn encode_chosen(choice: Choice, samples: [f64; 24]) -> Result<Code, Refusal>
+    ensures { coded_by result ≡ encode_chosen choice samples }
 {
     encode_chosen_with(choice, samples, SETTING)
 }

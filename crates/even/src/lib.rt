@@ -6,48 +6,34 @@
 
 ghost use Rattle.std.specs.Prelude.{◌≡◌, ◌≤◌, length, take};
 ghost use Rattle.page.specs.Answer.{read_by};
+ghost use Rattle.refusal.specs.Refusal.{number_in};
 ghost use Rattle.page.specs.Reader.{reading_of};
 ghost use Rattle.search.specs.Parity.{even_parities};
-ghost use Rattle.encoder.specs.Encode.{encode_at_over, encode_over, encode_samples_over};
-ghost use Rattle.even.specs.Even.{word_number, even_decoded, even_encoded, any_odd, even_read, even_cells};
+ghost use Rattle.encoder.specs.Encode.{coded_by, encode_at_over, encode_over, encode_samples_over};
+ghost use Rattle.even.specs.Even.{word_number, decoded_by, even_decoded, even_encoded, any_odd, even_read, even_cells};
 
 use encoder::Code;
 use refusal::Refusal;
 use tetra::Encoded;
 
-// What `decode` answers: number 0 and the point of the word; or number 13 and 24 zeros.
-#[derive(Clone, Copy)]
-pub struct Decoded {
-    pub number: u32,
-    pub point: [i32; 24],
-}
-
 // ---- words
-// The number of a word: 0, or 13 where its p, bit 0, is 1. No other bit counts.
-pub fn check(word: u64) -> u32
-    ensures { result ≡ word_number word }
+// Whether the profile has the word: refused with 13 where its p, bit 0, is 1. No other bit counts.
+pub fn check(word: u64) -> Result<(), Refusal>
+    ensures { number_in result ≡ word_number word }
 {
     if word % 2 == 0 {
-        return 0;
+        return Ok(());
     }
-    refusal::ALL_ODD
+    Err(Refusal::AllOdd)
 }
 
 // The point of a word, in natural order. Refused with 13. Bits 47 and up are ignored.
-pub fn decode(word: u64) -> Decoded
-    ensures { result ≡ even_decoded word }
+#[tactic(auto, unfolding(crate::specs::Even::even_decoded))]
+pub fn decode(word: u64) -> Result<[i32; 24], Refusal>
+    ensures { decoded_by result ≡ even_decoded word }
 {
-    let number = check(word);
-    if number != 0 {
-        return Decoded {
-            number,
-            point: [0i32; 24],
-        };
-    }
-    Decoded {
-        number,
-        point: tetra::decode(word),
-    }
+    check(word)?;
+    Ok(tetra::decode(word))
 }
 
 // ---- points
@@ -68,22 +54,22 @@ pub fn encode_point(point: [i32; 24]) -> Encoded
 
 // ---- samples: their code over the even points. 13 never comes up
 // At a scale. Refused with 7 at the setting 0, then with 3, 1, 2, 4.
-pub fn encode_at_scale(samples: [f64; 24], scale: f64, setting: u32) -> Code
-    ensures { result ≡ encode_at_over even_parities samples scale setting }
+pub fn encode_at_scale(samples: [f64; 24], scale: f64, setting: u32) -> Result<Code, Refusal>
+    ensures { coded_by result ≡ encode_at_over even_parities samples scale setting }
 {
     encoder::encode_at_scale_over(samples, scale, setting, false)
 }
 
 // At the scale that the samples give, at a setting of the shrinks. Refused with 7 at the setting 0, then with 1, 2.
-pub fn encode_with(samples: [f64; 24], setting: u32) -> Code
-    ensures { result ≡ encode_over even_parities samples setting }
+pub fn encode_with(samples: [f64; 24], setting: u32) -> Result<Code, Refusal>
+    ensures { coded_by result ≡ encode_over even_parities samples setting }
 {
     encoder::encode_with_over(samples, setting, false)
 }
 
 // The production call: at the scale that the samples give.
-pub fn encode(samples: [f64; 24]) -> Code
-    ensures { result ≡ encode_samples_over even_parities samples }
+pub fn encode(samples: [f64; 24]) -> Result<Code, Refusal>
+    ensures { coded_by result ≡ encode_samples_over even_parities samples }
 {
     encode_with(samples, encoder::SETTING)
 }
@@ -94,14 +80,7 @@ fn any_odd(words: [u64; 64], count: usize) -> bool
     requires { count ≤ 64 }
     ensures { result ≡ any_odd (take count words) }
 {
-    let mut i: usize = 0;
-    while i < count {
-        if check(words[i]) != 0 {
-            return true;
-        }
-        i += 1;
-    }
-    false
+    words[..count].iter().any(|w| check(*w).is_err())
 }
 
 // Reads a page into the buffer, 24 counts per block, from its start on, and answers how many blocks it wrote. Refused with 9 where the text is no page, then with 13 where a word is

@@ -4,8 +4,7 @@ use Rattle.std.specs.Prelude.{List, ℕ}
 use Rattle.std.specs.Option.{option_map_or}
 use Rattle.request.specs.Words.{last_of, hex_after}
 use Rattle.search.specs.Parity.{even_parities}
-use Rattle.even.specs.Even.{even_decoded, even_encoded}
-use Rattle.even.specs.declared.Decoded.{Decoded}
+use Rattle.even.specs.Even.{Decoded, even_decoded, even_encoded}
 use Rattle.answers.specs.Answers.{no_request, by_number, point_line, encoded_line, on_point, scale_over, auto_over, named, answer_of}
 
 -- ---- lines

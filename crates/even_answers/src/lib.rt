@@ -12,22 +12,22 @@
 #![tactic(auto)]
 
 ghost use Rattle.std.specs.Prelude.{◌≡◌};
+ghost use Rattle.even.specs.Even.{decoded_by};
 ghost use Rattle.even_answers.specs.EvenAnswers.{decoded_line, even_decode_answer, even_point_answer, even_answer_of};
 
 use answers::{Reply, no_request, point_line, refused, word_line};
-use even::Decoded;
+use refusal::Refusal;
 use request::{after_name, last, read_hex, read_point};
 
 // ---- lines
 
-fn decoded_line(d: Decoded) -> Reply
-    ensures { result ≡ decoded_line d }
+fn decoded_line(answer: Result<[i32; 24], Refusal>) -> Reply
+    ensures { result ≡ decoded_line (decoded_by answer) }
 {
-    if d.number != 0 {
-        return refused(d.number);
+    match answer {
+        Ok(point) => point_line(point),
+        Err(r) => refused(r.number()),
     }
-    let y = d.point;
-    point_line(y)
 }
 
 // ---- requests: the arguments stand from `at` to the line's end

@@ -14,8 +14,7 @@ use Rattle.tetra.specs.Demand2.{point-length}
 use Rattle.tetra.specs.declared.Encoded.{Encoded}
 use Rattle.score.specs.Samples.{AllFit}
 use Rattle.search.specs.Parity.{even_parities}
-use Rattle.encoder.specs.declared.Code.{Code}
-use Rattle.encoder.specs.Encode.{number_at, encode_at_over, encode_at_scale, number_of, encode_over}
+use Rattle.encoder.specs.Encode.{Coding, number_at, encode_at_over, encode_at_scale, number_of, encode_over}
 use Rattle.encoder.specs.Numbers.{at-number, at-refused, number_is, is_refused}
 use Rattle.demands.specs.Promised.{Even, Coded}
 use Rattle.demands.proofs.Codes.{even_at_scale_lem, even-samples}
@@ -24,8 +23,7 @@ use Rattle.demands.specs.Agrees.{even_agrees}
 use Rattle.page.specs.Answer.{PageRead}
 use Rattle.page.specs.Reader.{reading_of}
 use Rattle.page.specs.PageRule.{on_page}
-use Rattle.even.specs.declared.Decoded.{Decoded}
-use Rattle.even.specs.Even.{word_number, even_decoded, even_encoded, even_read, even_cells}
+use Rattle.even.specs.Even.{Decoded, word_number, even_decoded, even_encoded, even_read, even_cells}
 use Rattle.even.specs.EvenRule.{
   even_word,
   even_decoded_lem,
@@ -97,10 +95,10 @@ of_point y e f d l p q r = record {
     has = (even-members y l).0
 
 -- ---- codes: c is the answer, which the call's definition says is g
-keeps-code : (c g : Code) → c ≡ g → (d : Decoded) (e : Encoded) → d ≡ even_decoded c.word → e ≡ even_encoded c.point
+keeps-code : (c g : Coding) → c ≡ g → (d : Decoded) (e : Encoded) → d ≡ even_decoded c.word → e ≡ even_encoded c.point
     → (g.number ≡ 0 → Coded g × Even g.point) → KeepsEvenCode c d e
 keeps-code c g q d e p r k h =
-    let m = subst (λ (a : Code). Coded a × Even a.point) (sym q) (k (sym (ap (λ (a : Code). a.number) q) ∙ h)) in
+    let m = subst (λ (a : Coding). Coded a × Even a.point) (sym q) (k (sym (ap (λ (a : Coding). a.number) q) ∙ h)) in
     let b : point_of c.word ≡ c.point = m.0.back in
     let z : word_number c.word ≡ 0 = (even_word c.word).1 (subst Even (sym b) m.1) in (
       m.0.small,
@@ -109,7 +107,7 @@ keeps-code c g q d e p r k h =
     )
 
 module _ (x : List Float) (l : length x ≡ 24) (f : AllFit x) where
-  module _ (c : Code) (d : Decoded) (e : Encoded) (p : d ≡ even_decoded c.word) (r : e ≡ even_encoded c.point) where
+  module _ (c : Coding) (d : Decoded) (e : Encoded) (p : d ≡ even_decoded c.word) (r : e ≡ even_encoded c.point) where
     pub of_scale : (s : Float) (n : ℕ) → T (fits binary64 s) → c ≡ encode_at_over even_parities x s n
         → record {
           numbered : Numbered (number_at x s n) c;
@@ -125,7 +123,7 @@ module _ (x : List Float) (l : length x ≡ 24) (f : AllFit x) where
           numbered = k;
           code_value = q;
           keeps_even_code = keeps-code c g q d e p r (λ h. even_at_scale_lem x s n l f fs (sym m ∙ h));
-          returns_nearest_even = λ h z W E N. ap (λ (a : Code). a.point) q ∙ (nearest-even_at_scale x s n l f fs (sym k.0 ∙ h) z E W N).point;
+          returns_nearest_even = λ h z W E N. ap (λ (a : Coding). a.point) q ∙ (nearest-even_at_scale x s n l f fs (sym k.0 ∙ h) z E W N).point;
         }
 
     pub of_samples_lem : (n : ℕ) → c ≡ encode_over even_parities x n
@@ -143,9 +141,9 @@ module _ (x : List Float) (l : length x ≡ 24) (f : AllFit x) where
           keeps_even_code = keeps-code c g q d e p r (λ h. even-samples x n l f (sym m ∙ h));
         }
 
-  pub of_both : (s : Float) (n : ℕ) (c g : Code) → T (fits binary64 s) → c ≡ encode_at_over even_parities x s n → g ≡ encode_at_scale x s n
+  pub of_both : (s : Float) (n : ℕ) (c g : Coding) → T (fits binary64 s) → c ≡ encode_at_over even_parities x s n → g ≡ encode_at_scale x s n
       → AgreesWhereEven c g
-  of_both s n c g fs p q h = p ∙ even_agrees x s n l f fs (subst (λ (a : Code). Even a.point) q h) ∙ sym q
+  of_both s n c g fs p q h = p ∙ even_agrees x s n l f fs (subst (λ (a : Coding). Even a.point) q h) ∙ sym q
 
 -- ---- pages
 pub of_page : (text : List ℕ) (old new : List ℤ) (r : PageRead) → r ≡ even_read (reading_of text) (length old)

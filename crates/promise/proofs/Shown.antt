@@ -24,10 +24,8 @@ use Rattle.float.specs.Laws.Exact.{no_digits, some-digits}
 use Rattle.root.specs.Root.{NearestRoot, Rooted, rooted}
 use Rattle.root.specs.Nearest.{rooted-nearest}
 use Rattle.score.specs.Samples.{AllFit, sample_number}
-use Rattle.score.specs.Scale.{largest_of, lower_scale, scales}
-use Rattle.score.specs.declared.Scales.{Scales}
-use Rattle.encoder.specs.declared.Code.{Code}
-use Rattle.encoder.specs.Encode.{empty_code, number_at, encode_at_scale, number_of, encode_with}
+use Rattle.score.specs.Scale.{Measured, largest_of, lower_scale, scales}
+use Rattle.encoder.specs.Encode.{Coding, empty_code, number_at, encode_at_scale, number_of, encode_with}
 use Rattle.encoder.specs.Numbers.{at-number, at-refused, number_is, is_refused}
 use Rattle.demands.specs.Promised.{Coded}
 use Rattle.demands.proofs.Codes.{at_scale_lem, samples}
@@ -121,17 +119,17 @@ of_point y e z l q d = record {
         (subst (λ (m : ℕ). m < 2 ^ 47) (sym v) a.small, d ∙ ap point_of v ∙ a.back)
 
 -- ---- codes: c is the answer, which the call's definition says is d
-module _ (c d : Code) (q : c ≡ d) where
+module _ (c d : Coding) (q : c ≡ d) where
   pub numbered : (k : ℕ) → d.number ≡ k → (k ≢ 0 → d ≡ empty_code k) → Numbered k c
-  numbered k n r = (ap (λ (a : Code). a.number) q ∙ n, λ h. q ∙ r h)
+  numbered k n r = (ap (λ (a : Coding). a.number) q ∙ n, λ h. q ∙ r h)
 
   keeps-code : (y : List ℤ) (e : Encoded) → y ≡ point_of c.word → e ≡ encode_of c.point
       → (d.number ≡ 0 → Coded d) → KeepsCode c y e
   keeps-code y e p r k h =
-      let g = subst Coded (sym q) (k (sym (ap (λ (a : Code). a.number) q) ∙ h)) in
+      let g = subst Coded (sym q) (k (sym (ap (λ (a : Coding). a.number) q) ∙ h)) in
       (g.small, p ∙ g.back, r ∙ g.again)
 
-module _ (x : List Float) (l : length x ≡ 24) (f : AllFit x) (c : Code) (y : List ℤ) (e : Encoded)
+module _ (x : List Float) (l : length x ≡ 24) (f : AllFit x) (c : Coding) (y : List ℤ) (e : Encoded)
     (p : y ≡ point_of c.word) (r : e ≡ encode_of c.point) where
   pub of_scale : (s : Float) (n : ℕ) → T (fits binary64 s) → c ≡ encode_at_scale x s n
       → record {
@@ -148,7 +146,7 @@ module _ (x : List Float) (l : length x ≡ 24) (f : AllFit x) (c : Code) (y : L
         code_value = q;
         keeps_code = keeps-code c (encode_at_scale x s n) q y e p r (λ h. at_scale_lem x s n l f d (sym m ∙ h));
         returns_nearest = λ h z W N.
-            ap (λ (a : Code). a.point) q ∙ (nearest-at_scale x s n l f d (sym k.0 ∙ h) z W N).point;
+            ap (λ (a : Coding). a.point) q ∙ (nearest-at_scale x s n l f d (sym k.0 ∙ h) z W N).point;
       }
 
   pub of_samples_lem : (n : ℕ) → c ≡ encode_with x n
@@ -167,7 +165,7 @@ module _ (x : List Float) (l : length x ≡ 24) (f : AllFit x) (c : Code) (y : L
 
 -- ---- what samples give besides
 -- the Rust's lower scale carries number 0, all samples zero or not
-one_number : (b : Bool) (s t : Scales) → s.number ≡ 0 → t.number ≡ 0 → (cond b s t).number ≡ 0
+one_number : (b : Bool) (s t : Measured) → s.number ≡ 0 → t.number ≡ 0 → (cond b s t).number ≡ 0
 one_number true s t p q = p
 one_number false s t p q = q
 
@@ -175,11 +173,11 @@ lower-number : (x : List Float) → (lower_scale x).number ≡ 0
 unfolding lower_scale
 lower-number x = one_number (eq (largest_of x) zero64) _ _ refl refl
 
-pub of_scales : (x : List Float) (r : Scales) → r ≡ scales x → Scaled (sample_number x) (lower_scale x) r
+pub of_scales : (x : List Float) (r : Measured) → r ≡ scales x → Scaled (sample_number x) (lower_scale x) r
 of_scales x r q =
     (λ h. q ∙ rw (eq-eqb (sample_number x) 0 h) itself, λ h. q ∙ rw (ne_eqb (sample_number x) 0 h))
   where
-    numbered_by : ℕ → Scales
+    numbered_by : ℕ → Measured
     numbered_by n = record { number = n; largest = (lower_scale x).largest; scale = (lower_scale x).scale }
 
     itself : lower_scale x ≡ numbered_by 0

@@ -38,7 +38,10 @@
 --   the Rust's answers over the even points    `encode_at_over`, `encode_over`,          encoder/specs/Encode
 --                                              `encode_samples_over`
 --   the parities that they search              `even_parities`                         search/specs/Parity
--- The structs of the answers (`Encoded`, `Code`, ..) stand in src/ of their crates.
+-- The answers are told as records of document 01 (`Coding`, `Scored`, ..): each stands in specs/ of its crate, with what maps an answer to it;
+-- the structs that are left (`Encoded`, ..) stand in src/ of theirs.
+use Rattle.score.specs.Scale.{Measured}
+use Rattle.even.specs.Even.{Decoded}
 use Rattle.std.specs.Prelude.{◌≡◌, true, false, ◌≢◌, ◌↔◌, ◌⊎◌, List, ◌++◌, map, ℕ, ◌+◌, ◌*◌, ◌-◌, ◌%◌, ◌^◌, ◌<◌, ◌≤◌, T, ℤ, pos, ◌*ℤ◌, Float, length, get_or, take, drop, replicate}
 use Rattle.std.specs.Float.Ieee.Scale.{finite}
 use Rattle.tetra.specs.Lattice.{LatticePoint, HasWord}
@@ -50,11 +53,8 @@ use Rattle.float.specs.Value.{mag_units, is_minus, zero64}
 use Rattle.float.specs.Calls.{quotients_of}
 use Rattle.float.specs.Distance.{sq_dist, margin}
 use Rattle.root.specs.Root.{NearestRoot, Rooted}
-use Rattle.score.specs.Score.{doubles_of}
-use Rattle.score.specs.declared.Scored.{Scored}
-use Rattle.score.specs.declared.Scales.{Scales}
-use Rattle.encoder.specs.declared.Code.{Code}
-use Rattle.encoder.specs.Encode.{empty_code, encode_at_scale}
+use Rattle.score.specs.Score.{Scored, doubles_of}
+use Rattle.encoder.specs.Encode.{Coding, empty_code, encode_at_scale}
 use Rattle.shown.specs.declared.Printed.{Printed}
 use Rattle.page.specs.Page.{Page, page_text}
 use Rattle.page.specs.Counts.{page_counts, ToEven}
@@ -68,7 +68,6 @@ use Rattle.summary.specs.Answer.{Summed, longer}
 use Rattle.summary.specs.SummaryRule.{Agrees, Kept, RowIs}
 use Rattle.demands.specs.Promised.{Even, Coded}
 use Rattle.trace.specs.Trace.{Trace}
-use Rattle.even.specs.declared.Decoded.{Decoded}
 use Rattle.made.specs.declared.Made.{Made}
 use Rattle.made.specs.Made.{refused_lines, in_array as Made·in_array}
 
@@ -111,12 +110,12 @@ SaysWhy y e = Why y e.number e.section
 -- ---- SAMPLES: the call answers c, `decode` of c's word answers y, `encode` of c's point answers e
 -- (demand 1) The call answers its number k, and where that is not 0 the empty code: word 0, 24 zeros, score
 -- +0.0.
-abbrev pub Numbered : ℕ → Code → Type 0
+abbrev pub Numbered : ℕ → Coding → Type 0
 Numbered k c = (c.number ≡ k) × (k ≢ 0 → c ≡ empty_code k)
 
 -- (demand 2) The word of an accepted call is below 2 ^ 47 and decodes to its point, and the point encodes to
 -- the word. That the code is the Rust's is an equation in the contract itself.
-abbrev pub KeepsCode : Code → List ℤ → Encoded → Type 0
+abbrev pub KeepsCode : Coding → List ℤ → Encoded → Type 0
 KeepsCode c y e = c.number ≡ 0
     → (c.word < 2 ^ 47) × (y ≡ c.point) × (e ≡ record { number = 0; section = 0; word = c.word })
 
@@ -127,7 +126,7 @@ NearestBy y t = (z : List ℤ) → LatticePoint z → z ≢ y → sq_dist y t + 
 
 -- Where samples x, a scale s and a setting are accepted, and a point that has a word is so much the nearest
 -- to the rounded quotients x / s, the call answers that point.
-abbrev pub ReturnsNearest : List Float → Float → Code → Type 0
+abbrev pub ReturnsNearest : List Float → Float → Coding → Type 0
 ReturnsNearest x s c = c.number ≡ 0
     → (y : List ℤ) → HasWord y → NearestBy y (quotients_of x s) → c.point ≡ y
 
@@ -139,7 +138,7 @@ Scores k t r = (k ≡ 0 → r ≡ record { number = 0; score = t })
 
 -- `lower_scale`, where the Rust's largest magnitude and lower scale are those of s: a refusal has +0.0 in
 -- each.
-abbrev pub Scaled : ℕ → Scales → Scales → Type 0
+abbrev pub Scaled : ℕ → Measured → Measured → Type 0
 Scaled k s r = (k ≡ 0 → r ≡ record { number = 0; largest = s.largest; scale = s.scale })
     × (k ≢ 0 → r ≡ record { number = k; largest = zero64; scale = zero64 })
 
@@ -248,7 +247,7 @@ pub record RefusesToForm (num count : ℕ) (words old new : List ℕ) (r : Forme
 abbrev pub block_of : List ℤ → ℕ → List Float
 block_of x i = doubles_of (block_at x (24 * i))
 
-abbrev pub block_code : ℕ → List ℤ → ℕ → Code
+abbrev pub block_code : ℕ → List ℤ → ℕ → Coding
 block_code num x i = encode_at_scale (block_of x i) (scale_of num) 8
 
 -- An accepted call writes a page from the text's start on, and the rest of the text stays. It is a page by
@@ -419,7 +418,7 @@ KeepsEvenPoint y e d = e.number ≡ 0 → (e.word < 2 ^ 47) × (d ≡ record { n
 -- Samples: the call answers c, `decode` of c's word d, and `encode_point` of c's point e. The word of an accepted
 -- call is below 2 ^ 47 and decodes to its point, and the point encodes to the word, all in the profile: so both
 -- are even.
-abbrev pub KeepsEvenCode : Code → Decoded → Encoded → Type 0
+abbrev pub KeepsEvenCode : Coding → Decoded → Encoded → Type 0
 KeepsEvenCode c d e = c.number ≡ 0
     → (c.word < 2 ^ 47) × (d ≡ record { number = 0; point = c.point })
     × (e ≡ record { number = 0; section = 0; word = c.word })
@@ -429,12 +428,12 @@ KeepsEvenCode c d e = c.number ≡ 0
 abbrev pub NearestEvenBy : List ℤ → List Float → Type 0
 NearestEvenBy y t = (z : List ℤ) → LatticePoint z → Even z → z ≢ y → sq_dist y t + margin < sq_dist z t
 
-abbrev pub ReturnsNearestEven : List Float → Float → Code → Type 0
+abbrev pub ReturnsNearestEven : List Float → Float → Coding → Type 0
 ReturnsNearestEven x s c = c.number ≡ 0
     → (y : List ℤ) → HasWord y → Even y → NearestEvenBy y (quotients_of x s) → c.point ≡ y
 
 -- At a scale, where the full coder's answer f has an even point, it is the profile's answer c.
-abbrev pub AgreesWhereEven : Code → Code → Type 0
+abbrev pub AgreesWhereEven : Coding → Coding → Type 0
 AgreesWhereEven c f = Even f.point → c ≡ f
 
 -- Pages: `read_page` of a text answers r, and the buffer that held `old` then holds `new`.

@@ -8,12 +8,12 @@ ghost use Rattle.std.specs.Prelude.{◌≡◌};
 ghost use Rattle.tetra.specs.Tetra.{point_of};
 ghost use Rattle.tetra.specs.Encode.{encode_of};
 ghost use Rattle.score.specs.Samples.{sample_number};
-ghost use Rattle.score.specs.Score.{t_of};
-ghost use Rattle.score.specs.Scale.{lower_scale};
+ghost use Rattle.score.specs.Score.{t_of, scored_by};
+ghost use Rattle.score.specs.Scale.{lower_scale, measured_by};
 ghost use Rattle.search.specs.Parity.{even_parities};
-ghost use Rattle.encoder.specs.Encode.{number_at, number_of, encode_at_scale, encode_with, encode_samples};
+ghost use Rattle.encoder.specs.Encode.{coded_by, number_at, number_of, encode_at_scale, encode_with, encode_samples};
 ghost use Rattle.encoder.specs.Encode.{encode_at_over, encode_over, encode_samples_over};
-ghost use Rattle.even.specs.Even.{even_decoded, even_encoded};
+ghost use Rattle.even.specs.Even.{decoded_by, even_decoded, even_encoded};
 ghost use Rattle.refusal.specs.Refusal.{number_in};
 ghost use Rattle.page.specs.Answer.{parsed_by, read_by};
 ghost use Rattle.page.specs.Form.{formed_by};
@@ -37,11 +37,10 @@ ghost use Rattle.promise.specs.Demands.{KeepsEvenCode, ReturnsNearestEven, Agree
 ghost use Rattle.promise.specs.Demands.{ReadsEvenPages, RefusesToReadEven};
 
 use encoder::Code;
-use even::Decoded;
 use made::Made;
 use page::Page;
 use refusal::Refusal;
-use score::{Scales, Scored};
+use score::Scales;
 use shown::Printed;
 use tetra::Encoded;
 use writer::Unwritten;
@@ -63,16 +62,16 @@ pub struct FromPoint {
 // The code of samples, what its word decodes to, and what its point encodes to.
 #[derive(Clone, Copy)]
 pub struct FromSamples {
-    pub code: Code,
+    pub code: Result<Code, Refusal>,
     pub decoded: [i32; 24],
     pub encoded: Encoded,
 }
 
-// A word's number in the even profile, its point, and what the point encodes to.
+// Whether the even profile has a word, its point, and what the point encodes to.
 #[derive(Clone, Copy)]
 pub struct EvenFromWord {
-    pub number: u32,
-    pub decoded: Decoded,
+    pub checked: Result<(), Refusal>,
+    pub decoded: Result<[i32; 24], Refusal>,
     pub back: Encoded,
 }
 
@@ -81,22 +80,22 @@ pub struct EvenFromWord {
 pub struct EvenFromPoint {
     pub coded: Encoded,
     pub full: Encoded,
-    pub back: Decoded,
+    pub back: Result<[i32; 24], Refusal>,
 }
 
 // The profile's code of samples, what its word decodes to, and what its point encodes to.
 #[derive(Clone, Copy)]
 pub struct EvenFromSamples {
-    pub code: Code,
-    pub decoded: Decoded,
+    pub code: Result<Code, Refusal>,
+    pub decoded: Result<[i32; 24], Refusal>,
     pub encoded: Encoded,
 }
 
 // The profile's code of samples, and the full coder's.
 #[derive(Clone, Copy)]
 pub struct EvenAndFull {
-    pub even: Code,
-    pub full: Code,
+    pub even: Result<Code, Refusal>,
+    pub full: Result<Code, Refusal>,
 }
 
 // ---- words and points
@@ -127,40 +126,54 @@ pub fn from_point(point: [i32; 24]) -> FromPoint
 // `encode_at_scale`, at any setting of the shrinks, with `decode` of its word and `encode` of its point. Its
 // code is the one of the Rust's search, which `encode_at_scale` defines float operation by float operation.
 pub fn at_scale(samples: [f64; 24], scale: f64, setting: u32) -> FromSamples
-    ensures numbered { Numbered (number_at samples scale setting) result.code }
-    ensures code_value { result.code ≡ encode_at_scale samples scale setting }
-    ensures keeps_code { KeepsCode result.code result.decoded result.encoded }
-    ensures returns_nearest { ReturnsNearest samples scale result.code }
+    ensures numbered { Numbered (number_at samples scale setting) (coded_by result.code) }
+    ensures code_value { coded_by result.code ≡ encode_at_scale samples scale setting }
+    ensures keeps_code { KeepsCode (coded_by result.code) result.decoded result.encoded }
+    ensures returns_nearest { ReturnsNearest samples scale (coded_by result.code) }
 {
     with_back(encoder::encode_at_scale(samples, scale, setting))
 }
 
 // `encode_with`, in the same way: at the scale that the samples give.
 pub fn with_setting(samples: [f64; 24], setting: u32) -> FromSamples
-    ensures numbered { Numbered (number_of samples setting) result.code }
-    ensures code_value { result.code ≡ encode_with samples setting }
-    ensures keeps_code { KeepsCode result.code result.decoded result.encoded }
+    ensures numbered { Numbered (number_of samples setting) (coded_by result.code) }
+    ensures code_value { coded_by result.code ≡ encode_with samples setting }
+    ensures keeps_code { KeepsCode (coded_by result.code) result.decoded result.encoded }
 {
     with_back(encoder::encode_with(samples, setting))
 }
 
 // The sample encoder's `encode`, in the same way: it names no setting.
 pub fn at_own_scale(samples: [f64; 24]) -> FromSamples
-    ensures numbered { Numbered (sample_number samples) result.code }
-    ensures code_value { result.code ≡ encode_samples samples }
-    ensures keeps_code { KeepsCode result.code result.decoded result.encoded }
+    ensures numbered { Numbered (sample_number samples) (coded_by result.code) }
+    ensures code_value { coded_by result.code ≡ encode_samples samples }
+    ensures keeps_code { KeepsCode (coded_by result.code) result.decoded result.encoded }
 {
     with_back(encoder::encode(samples))
 }
 
-// A code, `decode` of its word and `encode` of its point.
-fn with_back(code: Code) -> FromSamples
-    ensures code_value { result.code ≡ code }
-    ensures decoded_value { result.decoded ≡ point_of result.code.word }
-    ensures encoded_value { result.encoded ≡ encode_of result.code.point }
+// The word and the point of an answer: where it is a refusal, those of the empty code.
+fn word_and_point(code: Result<Code, Refusal>) -> (u64, [i32; 24])
+    ensures word_value { result.0 ≡ (coded_by code).word }
+    ensures point_value { result.1 ≡ (coded_by code).point }
 {
-    let decoded = tetra::decode(code.word);
-    let point = code.point;
+    match code {
+        Ok(c) => {
+            let point = c.point;
+            (c.word, point)
+        }
+        Err(_) => (0, [0i32; 24]),
+    }
+}
+
+// A code, `decode` of its word and `encode` of its point.
+fn with_back(code: Result<Code, Refusal>) -> FromSamples
+    ensures code_value { coded_by result.code ≡ coded_by code }
+    ensures decoded_value { result.decoded ≡ point_of (coded_by result.code).word }
+    ensures encoded_value { result.encoded ≡ encode_of (coded_by result.code).point }
+{
+    let (word, point) = word_and_point(code);
+    let decoded = tetra::decode(word);
     let encoded = tetra::encode(point);
     FromSamples {
         code,
@@ -171,15 +184,15 @@ fn with_back(code: Code) -> FromSamples
 
 // ---- what samples give besides
 // `t_of`.
-pub fn score_of(samples: [f64; 24], point: [i32; 24]) -> Scored
-    ensures { Scores (sample_number samples) (t_of samples point) result }
+pub fn score_of(samples: [f64; 24], point: [i32; 24]) -> Result<f64, Refusal>
+    ensures { Scores (sample_number samples) (t_of samples point) (scored_by result) }
 {
     score::t_of(samples, point)
 }
 
 // `lower_scale`.
-pub fn scale_of(samples: [f64; 24]) -> Scales
-    ensures { Scaled (sample_number samples) (lower_scale samples) result }
+pub fn scale_of(samples: [f64; 24]) -> Result<Scales, Refusal>
+    ensures { Scaled (sample_number samples) (lower_scale samples) (measured_by result) }
 {
     score::lower_scale(samples)
 }
@@ -290,16 +303,15 @@ pub fn added_word(text: &[u8], word: u64, rows: &mut [i32]) -> Result<usize, Ref
 // ---- the even profile
 // `check` and `decode` of a word, and `encode_point` of its point.
 pub fn even_word(word: u64) -> EvenFromWord
-    ensures checks_word { ChecksWord word result.number }
-    ensures decodes_even { DecodesEven word result.decoded }
+    ensures checks_word { ChecksWord word (number_in result.checked) }
+    ensures decodes_even { DecodesEven word (decoded_by result.decoded) }
     ensures back_to_even { BackToEven word result.back }
 {
-    let number = even::check(word);
+    let checked = even::check(word);
     let decoded = even::decode(word);
-    let point = decoded.point;
-    let back = even::encode_point(point);
+    let back = even::encode_point(decoded.unwrap_or([0i32; 24]));
     EvenFromWord {
-        number,
+        checked,
         decoded,
         back,
     }
@@ -309,7 +321,7 @@ pub fn even_word(word: u64) -> EvenFromWord
 pub fn even_point(point: [i32; 24]) -> EvenFromPoint
     ensures accepts_even { AcceptsEven point result.coded }
     ensures refuses_odd { RefusesOdd point result.coded result.full }
-    ensures keeps_even_point { KeepsEvenPoint point result.coded result.back }
+    ensures keeps_even_point { KeepsEvenPoint point result.coded (decoded_by result.back) }
 {
     let coded = even::encode_point(point);
     let full = tetra::encode(point);
@@ -319,17 +331,17 @@ pub fn even_point(point: [i32; 24]) -> EvenFromPoint
 
 // `encode_at_scale` over the even points, with `decode` of its word and `encode_point` of its point.
 pub fn even_at_scale(samples: [f64; 24], scale: f64, setting: u32) -> EvenFromSamples
-    ensures numbered { Numbered (number_at samples scale setting) result.code }
-    ensures code_value { result.code ≡ encode_at_over even_parities samples scale setting }
-    ensures keeps_even_code { KeepsEvenCode result.code result.decoded result.encoded }
-    ensures returns_nearest_even { ReturnsNearestEven samples scale result.code }
+    ensures numbered { Numbered (number_at samples scale setting) (coded_by result.code) }
+    ensures code_value { coded_by result.code ≡ encode_at_over even_parities samples scale setting }
+    ensures keeps_even_code { KeepsEvenCode (coded_by result.code) (decoded_by result.decoded) result.encoded }
+    ensures returns_nearest_even { ReturnsNearestEven samples scale (coded_by result.code) }
 {
     with_even_back(even::encode_at_scale(samples, scale, setting))
 }
 
 // The same beside the full coder's answer.
 pub fn even_beside_full(samples: [f64; 24], scale: f64, setting: u32) -> EvenAndFull
-    ensures { AgreesWhereEven result.even result.full }
+    ensures { AgreesWhereEven (coded_by result.even) (coded_by result.full) }
 {
     let full = encoder::encode_at_scale(samples, scale, setting);
     let even = even::encode_at_scale(samples, scale, setting);
@@ -338,30 +350,30 @@ pub fn even_beside_full(samples: [f64; 24], scale: f64, setting: u32) -> EvenAnd
 
 // `encode_with` over the even points, in the same way: at the scale that the samples give.
 pub fn even_with_setting(samples: [f64; 24], setting: u32) -> EvenFromSamples
-    ensures numbered { Numbered (number_of samples setting) result.code }
-    ensures code_value { result.code ≡ encode_over even_parities samples setting }
-    ensures keeps_even_code { KeepsEvenCode result.code result.decoded result.encoded }
+    ensures numbered { Numbered (number_of samples setting) (coded_by result.code) }
+    ensures code_value { coded_by result.code ≡ encode_over even_parities samples setting }
+    ensures keeps_even_code { KeepsEvenCode (coded_by result.code) (decoded_by result.decoded) result.encoded }
 {
     with_even_back(even::encode_with(samples, setting))
 }
 
 // Its `encode`, in the same way: it names no setting.
 pub fn even_at_own_scale(samples: [f64; 24]) -> EvenFromSamples
-    ensures numbered { Numbered (sample_number samples) result.code }
-    ensures code_value { result.code ≡ encode_samples_over even_parities samples }
-    ensures keeps_even_code { KeepsEvenCode result.code result.decoded result.encoded }
+    ensures numbered { Numbered (sample_number samples) (coded_by result.code) }
+    ensures code_value { coded_by result.code ≡ encode_samples_over even_parities samples }
+    ensures keeps_even_code { KeepsEvenCode (coded_by result.code) (decoded_by result.decoded) result.encoded }
 {
     with_even_back(even::encode(samples))
 }
 
 // A code, `decode` of its word and `encode_point` of its point.
-fn with_even_back(code: Code) -> EvenFromSamples
-    ensures code_value { result.code ≡ code }
-    ensures decoded_value { result.decoded ≡ even_decoded result.code.word }
-    ensures encoded_value { result.encoded ≡ even_encoded result.code.point }
+fn with_even_back(code: Result<Code, Refusal>) -> EvenFromSamples
+    ensures code_value { coded_by result.code ≡ coded_by code }
+    ensures decoded_value { decoded_by result.decoded ≡ even_decoded (coded_by result.code).word }
+    ensures encoded_value { result.encoded ≡ even_encoded (coded_by result.code).point }
 {
-    let decoded = even::decode(code.word);
-    let point = code.point;
+    let (word, point) = word_and_point(code);
+    let decoded = even::decode(word);
     let encoded = even::encode_point(point);
     EvenFromSamples {
         code,

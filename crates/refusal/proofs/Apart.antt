@@ -1,6 +1,6 @@
 -- No two reasons are told alike: the number, and the section that a reason is about, decide it. Assumes nothing.
-use Rattle.std.specs.Prelude.{◌≡◌, refl, ℕ, cond, eqb}
-use Rattle.std.proofs.Common.{sym, ◌∙◌, ap₂, arith}
+use Rattle.std.specs.Prelude.{◌≡◌, refl, false, ℕ, cond, eqb}
+use Rattle.std.proofs.Common.{sym, ◌∙◌, ap₂, arith, ne_eqb}
 use Rattle.refusal.specs.declared.Refusal.{Refusal}
 use Rattle.refusal.specs.declared.Refusal.TheVariants.{NotFinite, TooLarge, NoScale, TooFar, MixedParity, TooWide, OutOfRange, NoRoom, NoPage, NoCodeword, Outside, WrongSum, AllOdd, Disagrees}
 use Rattle.refusal.specs.Refusal.{number_of, section_of}
@@ -78,3 +78,6 @@ told_at_all (Outside section) e = absurd (omega (arith, e))
 told_at_all WrongSum e = absurd (omega (arith, e))
 told_at_all AllOdd e = absurd (omega (arith, e))
 told_at_all Disagrees e = absurd (omega (arith, e))
+
+pub never_zero : (r : Refusal) → eqb (number_of r) 0 ≡ false
+never_zero r = ne_eqb (number_of r) 0 (told_at_all r)

@@ -1,53 +1,47 @@
--- The lists that the loops of this crate go through. Assumes nothing.
-use mathlib.Core.Path.{◌≡◌, refl, sym, ap, ap₂, ◌∙◌}
-use mathlib.Core.Bool.{Bool, true, false, ◌||◌}
-use mathlib.Core.List.{List, [], ◌∷◌}
-use Prim.Native.Nat.{ℕ, zero, suc, ◌+◌, ◌≤◌, ◌<◌}
+-- The lists that the chains of this crate go through, in std's words. Assumes nothing.
+use Rattle.std.specs.Prelude.{◌≡◌, refl, ℕ, ◌<◌, ℤ, pos, get_or, Bool, true, false, ◌||◌, List, [], ◌∷◌, length, Float}
+use Rattle.std.proofs.Common.{ap, sym, ◌∙◌}
+use Rattle.std.specs.Bool.{MatchBool}
+use Rattle.std.specs.Float.{nan, binary64}
+use Rattle.std.specs.Float.Ieee.{add, mul, of_int}
+use Rattle.laws.specs.Laws.Lists.{filled}
+use Prim.Native.Nat.{zero, suc}
 use native.Mathlib.Nat.{not-suc-le-zero, le_of_suc-le-suc}
-use lib.IntN.{ℤ, pos}
-use lib.ListN.{length, drop, get_or, drop_of_length-le}
-use lib.Ieee.{Float, nan, binary64, add, mul, of_int}
-use Rattle.laws.specs.Laws.Lists.{filled, drop-next}
+use Rattle.std.specs.List.{AllWithin, HoldsAt, list_any, fold, zip}
+use Rattle.std.proofs.lemmas.List.Elements.{All-from_all_within}
+use Rattle.std.proofs.lemmas.List.Folds.{list_any_at, list_any_none}
 use Rattle.float.specs.Calls.{abs_of, sum_from}
 use Rattle.score.specs.Samples.{some}
 use Rattle.score.specs.Score.{products, doubles_of}
-use Rattle.score.specs.Scale.{larger, largest_from}
 use Rattle.score.specs.Laws.Score.{doubles-length}
+use Rattle.score.specs.Scale.{larger, largest_from}
 
--- ---- one passes the test: the next one does, or not, or none is left
-module _ (f : Float → Bool) (xs : List Float) (i : ℕ) where
-  pub some_here : i < length xs → f (get_or xs i nan) ≡ true → some f (drop i xs) ≡ true
-  unfolding some
-  some_here h e = ap (some f) (drop-next Float nan xs i h) ∙ ap (λ (b : Bool). b || some f (drop (i + 1) xs)) e
+-- ---- one of them passes the test
+pub some_any : (f : Float → Bool) (xs : List Float) → some f xs ≡ list_any f xs
+unfolding some
+some_any f [] = refl
+some_any f (x ∷ xs) = ap (λ (b : Bool). f x || b) (some_any f xs)
 
-  pub some_next : i < length xs → f (get_or xs i nan) ≡ false → some f (drop i xs) ≡ some f (drop (i + 1) xs)
-  unfolding some
-  some_next h e = ap (some f) (drop-next Float nan xs i h) ∙ ap (λ (b : Bool). b || some f (drop (i + 1) xs)) e
-
-  pub some_done : length xs ≤ i → some f (drop i xs) ≡ false
-  unfolding some
-  some_done h = ap (some f) (drop_of_length-le xs h)
+-- what a search by the test answers
+pub some_found : (f : Float → Bool) (xs : List Float) (r : Bool)
+    → MatchBool r ((k : ℕ) × (k < length xs) × HoldsAt (λ (x : Float). f x ≡ true) xs k) (AllWithin (λ (x : Float). f x ≡ false) xs 0 (length xs))
+    → r ≡ some f xs
+some_found f xs true (k, i, h) = sym (some_any f xs ∙ list_any_at f xs k nan i (h nan))
+some_found f xs false h = sym (some_any f xs ∙ list_any_none f xs (All-from_all_within (λ (x : Float). f x ≡ false) xs h))
 
 -- ---- the sum of the products
-pub dot-next : (acc : Float) (xs ys : List Float) (i : ℕ) → i < length xs → i < length ys
-    → sum_from acc (products (drop i xs) (drop i ys))
-    ≡ sum_from (add binary64 acc (mul binary64 (get_or xs i nan) (get_or ys i nan))) (products (drop (i + 1) xs) (drop (i + 1) ys))
+pub dot_folds : (acc : Float) (xs ys : List Float)
+    → sum_from acc (products xs ys) ≡ fold (λ (s : Float) (p : Float × Float). add binary64 s (mul binary64 p.0 p.1)) acc (zip xs ys)
 unfolding sum_from products
-dot-next acc xs ys i h k = ap₂ (λ (u w : List Float). sum_from acc (products u w)) (drop-next Float nan xs i h) (drop-next Float nan ys i k)
-
-pub dot_done : (acc : Float) (xs ys : List Float) (i : ℕ) → length xs ≤ i → acc ≡ sum_from acc (products (drop i xs) (drop i ys))
-unfolding sum_from products
-dot_done acc xs ys i h = ap (λ (u : List Float). sum_from acc (products u (drop i ys))) (sym (drop_of_length-le xs h))
+dot_folds acc [] ys = refl
+dot_folds acc (x ∷ xs) [] = refl
+dot_folds acc (x ∷ xs) (y ∷ ys) = dot_folds (add binary64 acc (mul binary64 x y)) xs ys
 
 -- ---- the largest magnitude
-pub largest-next : (m : Float) (xs : List Float) (i : ℕ) → i < length xs
-    → largest_from m (drop i xs) ≡ largest_from (larger m (abs_of (get_or xs i nan))) (drop (i + 1) xs)
+pub largest_folds : (m : Float) (xs : List Float) → largest_from m xs ≡ fold (λ (m x : Float). larger m (abs_of x)) m xs
 unfolding largest_from
-largest-next m xs i h = ap (largest_from m) (drop-next Float nan xs i h)
-
-pub largest_done : (m : Float) (xs : List Float) (i : ℕ) → length xs ≤ i → m ≡ largest_from m (drop i xs)
-unfolding largest_from
-largest_done m xs i h = ap (largest_from m) (sym (drop_of_length-le xs h))
+largest_folds m [] = refl
+largest_folds m (x ∷ xs) = largest_folds (larger m (abs_of x)) xs
 
 -- ---- whole numbers as doubles
 doubles-at : (ys : List ℤ) (k : ℕ) → k < length ys → get_or (doubles_of ys) k nan ≡ of_int binary64 (get_or ys k (pos 0))

@@ -1,14 +1,14 @@
 -- A choice of scale, made by one call and coded at by another, on the same samples or on others: request 2026-07 of document 02. The choice that
 -- samples give is `choice_of` (Scale.antt). Definitions only.
-use Rattle.std.specs.Prelude.{Bool, false, cond, not, ◌&&◌, List, ℕ, T, eqb, negsuc, Float}
+use Rattle.std.specs.Prelude.{Bool, false, cond, not, ◌&&◌, List, ℕ, T, eqb, negsuc, Float, Result, Ok, Err}
 use Rattle.std.specs.Float.{fin, binary64}
 use Rattle.std.specs.Float.Ieee.{fits, lt, le, eq}
-use Rattle.refusal.specs.Refusal.{no_scale}
+use Rattle.refusal.specs.declared.Refusal.{Refusal}
+use Rattle.refusal.specs.Refusal.{no_scale, number_of}
 use Rattle.float.specs.Value.{zero64}
 use Rattle.float.specs.Calls.{quotients_of}
 use Rattle.score.specs.declared.Choice.{Choice}
 use Rattle.score.specs.declared.Choice.TheVariants.{Zero, Scale, Divide}
-use Rattle.score.specs.declared.Chosen.{Chosen}
 use Rattle.score.specs.Samples.{some, sample_number, is_scale, or_else, quotient_number}
 use Rattle.score.specs.Scale.{choice_of, first_scale, second_scale}
 
@@ -22,7 +22,15 @@ magnitude_of (Divide m s) = m
 abbrev pub ChoiceFits : Choice → Type 0
 ChoiceFits h = T (fits binary64 (magnitude_of h)) × T (fits binary64 (first_scale h))
 
--- ---- the call `choose`: 1 or 2, with the all-zero choice, or the choice that the samples give
+-- ---- the call `choose`: 1 or 2, with the all-zero choice, or number 0 and the choice that the samples give
+pub record Chosen : Type 0 where
+  pub number : ℕ
+  pub choice : Choice
+
+abbrev pub chosen_by : Result Choice Refusal → Chosen
+chosen_by (Ok c) = record { number = 0; choice = c }
+chosen_by (Err r) = record { number = number_of r; choice = Zero }
+
 abbrev pub chosen_as : ℕ → Choice → Chosen
 chosen_as n c = cond (eqb n 0) (record { number = 0; choice = c }) (record { number = n; choice = Zero })
 

@@ -1,9 +1,11 @@
 -- The scale that `encode` derives from the samples: `lower_scale`, the choice at the head of `encode`, and the second scale of `two_scales` of
 -- encoder.rs, one rounding per operation. Definitions only.
-use Rattle.std.specs.Prelude.{Bool, false, cond, ◌&&◌, List, [], ◌∷◌, ℕ, eqb, pos, negsuc, Float}
+use Rattle.std.specs.Prelude.{Bool, false, cond, ◌&&◌, List, [], ◌∷◌, ℕ, eqb, pos, negsuc, Float, Result, Ok, Err}
 use Rattle.std.specs.Float.{fin, binary64}
 use Rattle.std.specs.Float.Ieee.{mul, div, lt, le, eq}
 use Rattle.std.specs.Float.Ieee.Scale.{finite}
+use Rattle.refusal.specs.declared.Refusal.{Refusal}
+use Rattle.refusal.specs.Refusal.{number_of}
 use Rattle.float.specs.Value.{zero64}
 use Rattle.float.specs.Calls.{abs_of, quotients_of}
 use Rattle.root.specs.Root.{rooted}
@@ -31,6 +33,16 @@ abbrev pub least_normal64 : Float
 least_normal64 = fin false 1 (negsuc 1021)
 
 -- ---- lower_scale
+-- number 0, the largest magnitude and the lower scale; or the number of a refusal, and +0.0 in each
+pub record Measured : Type 0 where
+  pub number : ℕ
+  pub largest : Float
+  pub scale : Float
+
+abbrev pub measured_by : Result Scales Refusal → Measured
+measured_by (Ok s) = record { number = 0; largest = s.largest; scale = s.scale }
+measured_by (Err r) = record { number = number_of r; largest = zero64; scale = zero64 }
+
 -- f64::max, for an a that is no NaN; where b is one, it is a
 abbrev pub larger : Float → Float → Float
 larger a b = cond (lt a b) b a
@@ -52,19 +64,19 @@ abbrev pub scale_with : Float → Float → Float
 scale_with m n = div binary64 (mul binary64 (mul binary64 alpha64 m) n) root24
 
 -- (0, 0) where m is 0
-abbrev pub scales_at : List Float → Float → Scales
+abbrev pub scales_at : List Float → Float → Measured
 scales_at xs m =
     cond (eq m zero64) (record { number = 0; largest = zero64; scale = zero64 })
     (record { number = 0; largest = m; scale = scale_with m (unit_norm xs m) })
 
-unfoldable pub lower_scale : List Float → Scales
+unfoldable pub lower_scale : List Float → Measured
 lower_scale xs = scales_at xs (largest_of xs)
 
 -- ---- the call `lower_scale`: a refusal has +0.0 in each
-abbrev pub scales_as : ℕ → Scales → Scales
+abbrev pub scales_as : ℕ → Measured → Measured
 scales_as n s = cond (eqb n 0) s (record { number = n; largest = zero64; scale = zero64 })
 
-abbrev pub scales : List Float → Scales
+abbrev pub scales : List Float → Measured
 scales xs = scales_as (sample_number xs) (lower_scale xs)
 
 -- ---- the choice at the head of `encode`
@@ -73,7 +85,7 @@ abbrev pub is_normal : Float → Bool
 is_normal s = finite s && le least_normal64 (abs_of s)
 
 -- all zero; a scale; a magnitude to divide by, with the scale for afterwards
-abbrev pub choice_from : List Float → Scales → Choice
+abbrev pub choice_from : List Float → Measured → Choice
 choice_from xs a =
     cond (eq a.largest zero64) Zero
     (cond (is_normal a.scale) (Scale a.scale) (Divide a.largest (lower_scale (quotients_of xs a.largest)).scale))

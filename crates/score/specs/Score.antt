@@ -1,11 +1,12 @@
 -- The score of a point: `t_of` of encoder.rs, one rounding per operation. Definitions only.
-use Rattle.std.specs.Prelude.{true, cond, List, [], ◌∷◌, ℕ, eqb, ℤ, Float}
+use Rattle.std.specs.Prelude.{true, cond, List, [], ◌∷◌, ℕ, eqb, ℤ, Float, Result, Ok, Err}
 use Rattle.std.specs.Float.{inf, binary64}
 use Rattle.std.specs.Float.Ieee.{mul, div, lt, of_int}
+use Rattle.refusal.specs.declared.Refusal.{Refusal}
+use Rattle.refusal.specs.Refusal.{number_of}
 use Rattle.float.specs.Value.{zero64}
 use Rattle.float.specs.Calls.{sum_of}
 use Rattle.root.specs.Root.{rooted}
-use Rattle.score.specs.declared.Scored.{Scored}
 use Rattle.score.specs.Samples.{sample_number}
 
 -- each product of two numbers that stand at one place
@@ -30,7 +31,15 @@ score_of dot nn = cond (lt zero64 nn) (div binary64 dot (rooted nn).root) (inf t
 unfoldable pub t_of : List Float → List ℤ → Float
 t_of xs ys = score_of (dot_of xs (doubles_of ys)) (dot_of (doubles_of ys) (doubles_of ys))
 
--- ---- the call `t_of`: a refusal has the score +0.0
+-- ---- the call `t_of`: number 0 and the score, or the number of a refusal and the score +0.0
+pub record Scored : Type 0 where
+  pub number : ℕ
+  pub score : Float
+
+abbrev pub scored_by : Result Float Refusal → Scored
+scored_by (Ok t) = record { number = 0; score = t }
+scored_by (Err r) = record { number = number_of r; score = zero64 }
+
 abbrev pub scored_as : ℕ → Float → Scored
 scored_as n t = cond (eqb n 0) (record { number = 0; score = t }) (record { number = n; score = zero64 })
 

@@ -2,25 +2,19 @@
 // call of its own, `choose`; with the refusals of document 01 for samples and scales, and those for a choice. Every call answers for every input.
 #![tactic(auto)]
 
-ghost use Rattle.std.specs.Prelude.{◌≡◌, cond};
-ghost use Rattle.refusal.specs.Refusal.{no_scale};
-ghost use Rattle.float.specs.Calls.{abs_of};
-ghost use Rattle.score.specs.Samples.{unbounded, exceeds, some, sample_number, is_scale, scale_number};
-ghost use Rattle.score.specs.Score.{dot_of, doubles_of, score_of, t_of, scored};
-ghost use Rattle.score.specs.Scale.{larger, largest_of, unit_norm, scale_with, is_normal, lower_scale, scales, choice_of, second_scale};
-ghost use Rattle.score.specs.Choice.{chosen, nonzero, is_pair, is_division, pair_number, number_for, choice_number};
+ghost use Rattle.std.specs.Prelude.{◌≡◌, cond, Ok};
+ghost use Rattle.refusal.specs.Refusal.{no_scale, number_in};
+ghost use Rattle.float.specs.Calls.{abs_of, quotients_of};
+ghost use Rattle.score.specs.Samples.{exceeds, some, sample_number, is_scale, quotient_number, scale_number};
+ghost use Rattle.score.specs.Score.{dot_of, doubles_of, score_of, t_of, scored_by, scored};
+ghost use Rattle.score.specs.Scale.{larger, largest_of, unit_norm, scale_with, is_normal, measured_by, lower_scale, scales, choice_of, second_scale};
+ghost use Rattle.score.specs.Choice.{chosen_by, chosen, nonzero, is_pair, is_division, pair_number, number_for, choice_number};
 
-// A score, with the number 0; or 1 or 2 and +0.0.
-#[derive(Clone, Copy)]
-pub struct Scored {
-    pub number: u32,
-    pub score: f64,
-}
+use refusal::Refusal;
 
-// The largest magnitude and the lower scale, with the number 0; or 1 or 2 and +0.0 in each.
+// The largest magnitude of samples, and the lower of the two scales at which they are coded.
 #[derive(Clone, Copy)]
 pub struct Scales {
-    pub number: u32,
     pub largest: f64,
     pub scale: f64,
 }
@@ -33,97 +27,73 @@ pub enum Choice {
     Divide { magnitude: f64, scale: f64 },
 }
 
-// The choice that samples give, with the number 0; or 1 or 2 and the all-zero choice.
-#[derive(Clone, Copy)]
-pub struct Chosen {
-    pub number: u32,
-    pub choice: Choice,
-}
-
 // ---- refusals
 
-// One of them is a NaN or infinite.
-fn some_unbounded(x: [f64; 24]) -> bool
-    ensures { result ≡ some unbounded x }
-{
-    for i in 0..24usize {
-        if !float::is_finite(x[i]) {
-            return true;
-        }
-    }
-    false
-}
-
 // One of them is larger than the limit in magnitude.
-fn some_exceeds(x: [f64; 24], limit: f64) -> bool
-    ensures { result ≡ some (exceeds limit) x }
+fn some_exceeds(x: &[f64; 24], limit: f64) -> bool
+    ensures { result ≡ some (exceeds limit) x.now }
 {
-    for i in 0..24usize {
-        if limit < float::abs(x[i]) {
-            return true;
-        }
-    }
-    false
+    x.iter().any(|v| limit < float::abs(*v))
 }
 
-// 1 where a sample is a NaN or infinite, else 2 where a magnitude exceeds 1e290, else 0.
-pub fn sample_number(samples: [f64; 24]) -> u32
-    ensures { result ≡ sample_number samples }
+// Refused with 1 where a sample is a NaN or infinite, else with 2 where a magnitude exceeds 1e290.
+pub fn check_samples(samples: [f64; 24]) -> Result<(), Refusal>
+    ensures { number_in result ≡ sample_number samples }
 {
-    if some_unbounded(samples) {
-        return refusal::NOT_FINITE;
+    if samples.iter().any(|v| !float::is_finite(*v)) {
+        return Err(Refusal::NotFinite);
     }
-    if some_exceeds(samples, 1e290) {
-        return refusal::TOO_LARGE;
+    if some_exceeds(&samples, 1e290) {
+        return Err(Refusal::TooLarge);
     }
-    0
+    Ok(())
 }
 
+// A finite number above 0.
 fn is_scale(s: f64) -> bool
     ensures { result ≡ is_scale s }
 {
-    if float::is_finite(s) { 0.0 < s } else { false }
+    float::is_finite(s) && 0.0 < s
 }
 
-// 3 where the scale is no finite number above 0, else the samples' own number, else 4 where a quotient exceeds 1e6 in magnitude, else 0.
-pub fn scale_number(samples: [f64; 24], scale: f64) -> u32
-    ensures { result ≡ scale_number samples scale }
+// Refused with 4 where a quotient of a sample by the scale exceeds 1e6 in magnitude.
+fn check_quotients(samples: [f64; 24], scale: f64) -> Result<(), Refusal>
+    ensures { number_in result ≡ quotient_number (quotients_of samples scale) }
+{
+    if some_exceeds(&float::quotients(samples, scale), 1000000.0) {
+        return Err(Refusal::TooFar);
+    }
+    Ok(())
+}
+
+// Refused with 3 where the scale is no finite number above 0, else as the samples are, else with 4 where a quotient exceeds 1e6 in magnitude.
+#[tactic(auto, unfolding(crate::specs::Samples::scale_number))]
+pub fn check_scale(samples: [f64; 24], scale: f64) -> Result<(), Refusal>
+    ensures { number_in result ≡ scale_number samples scale }
 {
     if !is_scale(scale) {
-        return refusal::NO_SCALE;
+        return Err(Refusal::NoScale);
     }
-    let n = sample_number(samples);
-    if n != 0 {
-        return n;
-    }
-    if some_exceeds(float::quotients(samples, scale), 1000000.0) {
-        return refusal::TOO_FAR;
-    }
-    0
+    check_samples(samples)?;
+    check_quotients(samples, scale)
 }
 
 // ---- the score
 
 // The sum of the products, from left to right, from +0.0.
-fn dot(a: [f64; 24], b: [f64; 24]) -> f64
-    ensures { result ≡ dot_of a b }
+fn dot(a: &[f64; 24], b: &[f64; 24]) -> f64
+    ensures { result ≡ dot_of a.now b.now }
 {
-    let mut acc = 0.0;
-    for i in 0..24usize {
-        acc = acc + a[i] * b[i];
-    }
-    acc
+    a.iter()
+        .zip(b.iter())
+        .fold(0.0, |sum, (x, y)| sum + *x * *y)
 }
 
 // Each as a double, which is exact.
 pub fn doubles(y: [i32; 24]) -> [f64; 24]
     ensures { result ≡ doubles_of y }
 {
-    let mut t = [0.0; 24];
-    for i in 0..24usize {
-        t[i] = y[i] as f64;
-    }
-    t
+    y.map(f64::from)
 }
 
 fn over_root(d: f64, nn: f64) -> f64
@@ -140,21 +110,15 @@ pub fn score(samples: [f64; 24], point: [i32; 24]) -> f64
     ensures { result ≡ t_of samples point }
 {
     let y = doubles(point);
-    over_root(dot(samples, y), dot(y, y))
+    over_root(dot(&samples, &y), dot(&y, &y))
 }
 
-// The Rust's t_of: x·y over the root of y·y, minus infinity for the origin. Samples refused with 1 or 2 have the score +0.0.
-pub fn t_of(samples: [f64; 24], point: [i32; 24]) -> Scored
-    ensures { result ≡ scored samples point }
+// The Rust's t_of: x·y over the root of y·y, minus infinity for the origin. Refused with 1, 2.
+pub fn t_of(samples: [f64; 24], point: [i32; 24]) -> Result<f64, Refusal>
+    ensures { scored_by result ≡ scored samples point }
 {
-    let number = sample_number(samples);
-    if number == 0 {
-        return Scored {
-            number: 0,
-            score: score(samples, point),
-        };
-    }
-    Scored { number, score: 0.0 }
+    check_samples(samples)?;
+    Ok(score(samples, point))
 }
 
 // ---- the scale
@@ -167,14 +131,10 @@ fn grown(m: f64, v: f64) -> f64
     if m < a { a } else { m }
 }
 
-fn largest(x: [f64; 24]) -> f64
-    ensures { result ≡ largest_of x }
+fn largest(x: &[f64; 24]) -> f64
+    ensures { result ≡ largest_of x.now }
 {
-    let mut m = 0.0;
-    for i in 0..24usize {
-        m = grown(m, x[i]);
-    }
-    m
+    x.iter().fold(0.0, |m, v| grown(m, *v))
 }
 
 // The norm of the samples over m.
@@ -182,7 +142,7 @@ fn unit_norm(x: [f64; 24], m: f64) -> f64
     ensures { result ≡ unit_norm x m }
 {
     let q = float::quotients(x, m);
-    root::root(dot(q, q)).unwrap_or(0.0)
+    root::root(dot(&q, &q)).unwrap_or(0.0)
 }
 
 // ALPHA * m * n over the root of 24.
@@ -192,49 +152,36 @@ fn scale_with(m: f64, n: f64) -> f64
     0.3218 * m * n / 4.898979485566356
 }
 
-// The Rust's lower_scale of any samples, with no refusal.
+// The Rust's lower_scale of any samples, with no refusal: both are +0.0 where all samples are zero.
 fn scales_of(samples: [f64; 24]) -> Scales
-    ensures { result ≡ lower_scale samples }
+    ensures { measured_by (Ok result) ≡ lower_scale samples }
 {
-    let m = largest(samples);
-    if m == 0.0 {
+    let largest = largest(&samples);
+    if largest == 0.0 {
         return Scales {
-            number: 0,
             largest: 0.0,
             scale: 0.0,
         };
     }
     Scales {
-        number: 0,
-        largest: m,
-        scale: scale_with(m, unit_norm(samples, m)),
+        largest,
+        scale: scale_with(largest, unit_norm(samples, largest)),
     }
 }
 
-// The Rust's lower_scale. Samples refused with 1 or 2 have +0.0 in each.
-pub fn lower_scale(samples: [f64; 24]) -> Scales
-    ensures { result ≡ scales samples }
+// The Rust's lower_scale. Refused with 1, 2.
+pub fn lower_scale(samples: [f64; 24]) -> Result<Scales, Refusal>
+    ensures { measured_by result ≡ scales samples }
 {
-    let n = sample_number(samples);
-    if n == 0 {
-        return scales_of(samples);
-    }
-    Scales {
-        number: n,
-        largest: 0.0,
-        scale: 0.0,
-    }
+    check_samples(samples)?;
+    Ok(scales_of(samples))
 }
 
 // The Rust's f64::is_normal.
 fn is_normal(s: f64) -> bool
     ensures { result ≡ is_normal s }
 {
-    if float::is_finite(s) {
-        2.2250738585072014e-308 <= float::abs(s)
-    } else {
-        false
-    }
+    float::is_finite(s) && 2.2250738585072014e-308 <= float::abs(s)
 }
 
 // The head of the Rust's encode, of any samples: which scale, and whether to divide first.
@@ -264,44 +211,20 @@ pub fn second_scale(scale: f64) -> f64
 
 // ---- a choice
 
-// The head of the Rust's encode: how samples are to be coded. Samples refused with 1 or 2 have the all-zero choice.
-pub fn choose(samples: [f64; 24]) -> Chosen
-    ensures { result ≡ chosen samples }
+// The head of the Rust's encode: how samples are to be coded. Refused with 1, 2.
+#[tactic(auto, unfolding(crate::specs::Choice::chosen))]
+pub fn choose(samples: [f64; 24]) -> Result<Choice, Refusal>
+    ensures { chosen_by result ≡ chosen samples }
 {
-    let number = sample_number(samples);
-    if number == 0 {
-        return Chosen {
-            number: 0,
-            choice: choice_of(samples),
-        };
-    }
-    Chosen {
-        number,
-        choice: Choice::Zero,
-    }
-}
-
-// One of them is not 0.
-fn some_nonzero(x: [f64; 24]) -> bool
-    ensures { result ≡ some nonzero x }
-{
-    for i in 0..24usize {
-        if !(x[i] == 0.0) {
-            return true;
-        }
-    }
-    false
+    check_samples(samples)?;
+    Ok(choice_of(samples))
 }
 
 // A scale at which samples can be coded, and at 1.14 times it.
 fn is_pair(s: f64) -> bool
     ensures { result ≡ is_pair s }
 {
-    if is_scale(s) {
-        is_scale(second_scale(s))
-    } else {
-        false
-    }
+    is_scale(s) && is_scale(second_scale(s))
 }
 
 // A magnitude above 0 and not above 2^-1000, with a scale from 0.06 to 0.33. A NaN is neither.
@@ -311,51 +234,43 @@ fn is_division(m: f64, s: f64) -> bool
     (0.0 < m) & ((m <= 9.332636185032189e-302) & ((0.06 <= s) & (s <= 0.33)))
 }
 
-// 4 where a quotient exceeds 1e6 in magnitude at the scale or at 1.14 times it, else 0.
-fn pair_number(z: [f64; 24], s: f64) -> u32
-    ensures { result ≡ pair_number z s }
+// Refused with 4 where a quotient exceeds 1e6 in magnitude at the scale or at 1.14 times it.
+fn check_pair(z: [f64; 24], s: f64) -> Result<(), Refusal>
+    ensures { number_in result ≡ pair_number z s }
 {
-    if some_exceeds(float::quotients(z, s), 1000000.0) {
-        return refusal::TOO_FAR;
-    }
-    if some_exceeds(float::quotients(z, second_scale(s)), 1000000.0) {
-        return refusal::TOO_FAR;
-    }
-    0
+    check_quotients(z, s)?;
+    check_quotients(z, second_scale(s))
 }
 
-// The number of samples x that are coded as z, which are x or x divided, where the choice is a good one or not.
-fn number_for(good: bool, x: [f64; 24], z: [f64; 24], s: f64) -> u32
-    ensures { result ≡ number_for good x z s }
+// Of samples x that are coded as z, which are x or x divided, where the choice is a good one or not.
+fn check_coded(good: bool, x: [f64; 24], z: [f64; 24], s: f64) -> Result<(), Refusal>
+    ensures { number_in result ≡ number_for good x z s }
 {
     if !good {
-        return refusal::NO_SCALE;
+        return Err(Refusal::NoScale);
     }
-    let n = sample_number(x);
-    if n != 0 {
-        return n;
-    }
-    pair_number(z, s)
+    check_samples(x)?;
+    check_pair(z, s)
 }
 
-// 3 where the all-zero choice meets another number.
-fn zero_number(x: [f64; 24]) -> u32
-    ensures { result ≡ cond (some nonzero x) no_scale 0 }
+// Refused with 3 where the all-zero choice meets another number.
+fn check_zeros(x: [f64; 24]) -> Result<(), Refusal>
+    ensures { number_in result ≡ cond (some nonzero x) no_scale 0 }
 {
-    if some_nonzero(x) {
-        return refusal::NO_SCALE;
+    if x.iter().any(|v| *v != 0.0) {
+        return Err(Refusal::NoScale);
     }
-    0
+    Ok(())
 }
 
-// The number of samples at a choice, which may be that of other samples: 3, then 1 and 2 on the samples as given, then 4, else 0.
-pub fn choice_number(choice: Choice, samples: [f64; 24]) -> u32
-    ensures { result ≡ choice_number choice samples }
+// Samples at a choice, which may be that of other samples: refused with 3, then with 1 and 2 on the samples as given, then with 4.
+pub fn check_choice(choice: Choice, samples: [f64; 24]) -> Result<(), Refusal>
+    ensures { number_in result ≡ choice_number choice samples }
 {
     match choice {
-        Choice::Zero => zero_number(samples),
-        Choice::Scale(s) => number_for(is_pair(s), samples, samples, s),
-        Choice::Divide { magnitude, scale } => number_for(
+        Choice::Zero => check_zeros(samples),
+        Choice::Scale(s) => check_coded(is_pair(s), samples, samples, s),
+        Choice::Divide { magnitude, scale } => check_coded(
             is_division(magnitude, scale),
             samples,
             float::quotients(samples, magnitude),

@@ -8,7 +8,7 @@ ghost use Rattle.std.specs.Option.{unwrap_or};
 ghost use Rattle.writer.specs.Writer.{scale_of, is_wide, is_far, first_of, word_for, words_for};
 ghost use Rattle.writer.specs.Writer.{written_by, written_of, text_after};
 
-use refusal::{Refusal, TOO_FAR};
+use refusal::Refusal;
 
 // Why no page is written: the reason, and for a sample that is too large and a block that is too far the lowest block that has it; else 0.
 #[derive(Clone, Copy, Debug, PartialEq, Eq)]
@@ -49,16 +49,16 @@ fn is_wide(block: [i32; 24]) -> bool
 fn is_far(block: [i32; 24], scale: f64) -> bool
     ensures { result ≡ is_far scale block }
 {
-    score::scale_number(score::doubles(block), scale) == TOO_FAR
+    score::check_scale(score::doubles(block), scale) == Err(Refusal::TooFar)
 }
 
-// The word of block i.
+// The word of block i; 0 where the block is refused.
 fn word_for(samples: &[i32], i: usize, scale: f64) -> u64
     requires { i ≤ 64 }
     ensures { result ≡ word_for scale samples.now i }
 {
-    let code = encoder::encode_at_scale(score::doubles(tetra::block(samples, 24 * i)), scale, 8);
-    code.word
+    let block = score::doubles(tetra::block(samples, 24 * i));
+    encoder::encode_at_scale(block, scale, encoder::SETTING).map_or(0, |code| code.word)
 }
 
 // The lowest of the first `count` blocks that passes a test.

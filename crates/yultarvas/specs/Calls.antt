@@ -6,13 +6,10 @@ use Rattle.tetra.specs.Encode.{encode_of}
 use Rattle.tetra.specs.declared.Encoded.{Encoded}
 use Rattle.page.specs.Answer.{Reading, number_in, words_in, read_of, cells_of}
 use Rattle.page.specs.Reader.{reading_of}
-use Rattle.score.specs.declared.Scales.{Scales}
-use Rattle.score.specs.declared.Scored.{Scored}
-use Rattle.score.specs.Scale.{scales}
-use Rattle.score.specs.Score.{scored}
-use Rattle.encoder.specs.declared.Code.{Code}
+use Rattle.score.specs.Scale.{Measured, scales}
+use Rattle.score.specs.Score.{Scored, scored}
 use Rattle.writer.specs.Writer.{Written, written_of}
-use Rattle.encoder.specs.Encode.{encode_at_scale, encode_with, encode_samples}
+use Rattle.encoder.specs.Encode.{Coding, encode_at_scale, encode_with, encode_samples}
 
 -- ---- for all calls
 -- a slice with fewer places than a block is too short
@@ -53,25 +50,25 @@ abbrev pub outside_section : List ℤ → ℕ
 outside_section y = cond (short y) 0 (word_for y).section
 
 -- ---- the 24 samples at a slice's start to their code: at a scale, at the scale that they give, and there at the setting 8
-abbrev pub at_scale : List Float → Float → ℕ → Code
+abbrev pub at_scale : List Float → Float → ℕ → Coding
 at_scale x s n = encode_at_scale (take 24 x) s n
 
-abbrev pub at_setting : List Float → ℕ → Code
+abbrev pub at_setting : List Float → ℕ → Coding
 at_setting x n = encode_with (take 24 x) n
 
-abbrev pub at_own_scale : List Float → Code
+abbrev pub at_own_scale : List Float → Coding
 at_own_scale x = encode_samples (take 24 x)
 
 -- the number, where the point is to go into a slice that held `old`
-abbrev pub code_number : List Float → List ℤ → Code → ℕ
+abbrev pub code_number : List Float → List ℤ → Coding → ℕ
 code_number x old c = room_first (short x || short old) c.number
 
 -- what that slice then holds, where the number is k
-abbrev pub left_point : ℕ → Code → List ℤ → List ℤ
+abbrev pub left_point : ℕ → Coding → List ℤ → List ℤ
 left_point k c old = left k (at_front c.point old) old
 
 -- ---- the 24 samples at a slice's start to their largest magnitude and lower scale
-abbrev pub scales_for : List Float → Scales
+abbrev pub scales_for : List Float → Measured
 scales_for x = scales (take 24 x)
 
 abbrev pub scales_number : List Float → ℕ

@@ -4,8 +4,7 @@ use Rattle.std.specs.Prelude.{List, ℕ, ℤ, Float, length, take}
 use Rattle.tetra.specs.Tetra.{point_of}
 use Rattle.tetra.specs.declared.Encoded.{Encoded}
 use Rattle.search.specs.Parity.{even_parities}
-use Rattle.encoder.specs.declared.Code.{Code}
-use Rattle.encoder.specs.Encode.{encode_at_over, encode_over, encode_samples_over}
+use Rattle.encoder.specs.Encode.{Coding, encode_at_over, encode_over, encode_samples_over}
 use Rattle.page.specs.Reader.{reading_of}
 use Rattle.even.specs.Even.{word_number, even_encoded, even_read, even_cells}
 use Rattle.yultarvas.specs.Calls.{short, room_first, left, at_front}
@@ -28,13 +27,13 @@ abbrev pub even_point_word : List ℤ → ℕ → ℕ
 even_point_word y old = left (even_point_number y) (even_word_for y).word old
 
 -- ---- the 24 samples at a slice's start to their code over the even points: at a scale, at the scale that they give, and there at the setting 8
-abbrev pub even_at_scale : List Float → Float → ℕ → Code
+abbrev pub even_at_scale : List Float → Float → ℕ → Coding
 even_at_scale x s n = encode_at_over even_parities (take 24 x) s n
 
-abbrev pub even_at_setting : List Float → ℕ → Code
+abbrev pub even_at_setting : List Float → ℕ → Coding
 even_at_setting x n = encode_over even_parities (take 24 x) n
 
-abbrev pub even_at_own_scale : List Float → Code
+abbrev pub even_at_own_scale : List Float → Coding
 even_at_own_scale x = encode_samples_over even_parities (take 24 x)
 
 -- ---- a page's text to its counts, into a slice that held `old`: 9, then 13, then 8

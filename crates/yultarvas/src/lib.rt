@@ -158,14 +158,14 @@ pub extern "C" fn yultarvas_lower_scale(samples: &[f64], largest: &mut f64, scal
     if samples.len() < 24 {
         return NO_ROOM;
     }
-    let s = score::lower_scale(slices::samples_of(samples));
-    let number = s.number;
-    if number != 0 {
-        return number;
+    match score::lower_scale(slices::samples_of(samples)) {
+        Ok(s) => {
+            *largest = s.largest;
+            *scale = s.scale;
+            0
+        }
+        Err(r) => r.number(),
     }
-    *largest = s.largest;
-    *scale = s.scale;
-    0
 }
 
 // The score of the first 24 samples at the point in the first 24 places of `point`. Refused with 1, 2.
@@ -180,13 +180,13 @@ pub extern "C" fn yultarvas_t_of(samples: &[f64], point: &[i32], score: &mut f64
     if point.len() < 24 {
         return NO_ROOM;
     }
-    let t = score::t_of(slices::samples_of(samples), slices::point_of(point));
-    let number = t.number;
-    if number != 0 {
-        return number;
+    match score::t_of(slices::samples_of(samples), slices::point_of(point)) {
+        Ok(t) => {
+            *score = t;
+            0
+        }
+        Err(r) => r.number(),
     }
-    *score = t.score;
-    0
 }
 
 // ---- pages

@@ -20,7 +20,10 @@ use refusal::NO_ROOM;
 pub extern "C" fn yultarvas_even_check(word: u64) -> u32
     ensures { result ≡ word_number word }
 {
-    even::check(word)
+    match even::check(word) {
+        Ok(()) => 0,
+        Err(r) => r.number(),
+    }
 }
 
 // The point of a word, in natural order, into the first 24 places of `point`. Refused with 13.
@@ -32,14 +35,13 @@ pub extern "C" fn yultarvas_even_decode(word: u64, point: &mut [i32]) -> u32
     if point.len() < 24 {
         return NO_ROOM;
     }
-    let d = even::decode(word);
-    let number = d.number;
-    if number != 0 {
-        return number;
+    match even::decode(word) {
+        Ok(y) => {
+            slices::put_point(y, point);
+            0
+        }
+        Err(r) => r.number(),
     }
-    let y = d.point;
-    slices::put_point(y, point);
-    0
 }
 
 // The word of the point in the first 24 places of `point`. Refused by the first of these that holds: 5, 13, 10, 11, 12. The section of an 11 is

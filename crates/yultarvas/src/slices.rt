@@ -2,6 +2,7 @@
 ghost use Rattle.std.specs.Prelude.{◌≡◌, ◌++◌, ◌≤◌, length, take, drop};
 ghost use Rattle.std.specs.Result.{result_unwrap_or};
 ghost use Rattle.refusal.specs.Refusal.{number_in};
+ghost use Rattle.encoder.specs.Encode.{coded_by};
 ghost use Rattle.yultarvas.specs.Calls.{left, at_front, left_point};
 
 use encoder::Code;
@@ -59,21 +60,26 @@ pub(crate) fn put_count(answer: Result<usize, Refusal>, cell: &mut usize) -> u32
     }
 }
 
-// A code into the lent cells, unless its number is a refusal's. Answers the number.
-pub(crate) fn put_code(c: Code, word: &mut u64, point: &mut [i32], score: &mut f64) -> u32
+// A code into the lent cells, unless the samples are refused. Answers the number.
+pub(crate) fn put_code(
+    answer: Result<Code, Refusal>,
+    word: &mut u64,
+    point: &mut [i32],
+    score: &mut f64,
+) -> u32
     requires { 24 ≤ length point.old }
-    ensures value { result ≡ c.number }
-    ensures word_after { word.new ≡ left c.number c.word word.old }
-    ensures point_after { point.new ≡ left_point c.number c point.old }
-    ensures score_after { score.new ≡ left c.number c.score score.old }
+    ensures value { result ≡ (coded_by answer).number }
+    ensures word_after { word.new ≡ left result (coded_by answer).word word.old }
+    ensures point_after { point.new ≡ left_point result (coded_by answer) point.old }
+    ensures score_after { score.new ≡ left result (coded_by answer).score score.old }
 {
-    let number = c.number;
-    if number != 0 {
-        return number;
+    match answer {
+        Ok(c) => {
+            *word = c.word;
+            put_point(c.point, point);
+            *score = c.score;
+            0
+        }
+        Err(r) => r.number(),
     }
-    *word = c.word;
-    let y = c.point;
-    put_point(y, point);
-    *score = c.score;
-    0
 }

@@ -17,8 +17,7 @@ use Rattle.float.specs.Laws.Near.{abs-upto}
 use Rattle.float.specs.Laws.Rounding.{million_units, million-fits}
 use Rattle.float.specs.Laws.Arrays.{quotients-length, quotients-at}
 use Rattle.score.specs.Samples.{AllFit, exceeds, some, sample_number, is_scale, or_else, scale_number}
-use Rattle.score.specs.Scale.{root24, largest_of, unit_norm, scale_with, is_normal, lower_scale, choice_of, first_scale, second_scale}
-use Rattle.score.specs.declared.Scales.{Scales}
+use Rattle.score.specs.Scale.{Measured, root24, largest_of, unit_norm, scale_with, is_normal, lower_scale, choice_of, first_scale, second_scale}
 use Rattle.score.specs.declared.Choice.TheVariants.{Zero, Scale, Divide}
 use Rattle.score.specs.Laws.Sample.{Sample, each_at, some_cons, samples_are}
 use Rattle.members.specs.Accepted.{Accepted}
@@ -117,7 +116,7 @@ lower-fits x = go (eq (largest_of x) zero64)
     m : Float
     m = largest_of x
 
-    go : (b : Bool) → T (fits binary64 (cond {A = Scales} b (record { number = 0; largest = zero64; scale = zero64 })
+    go : (b : Bool) → T (fits binary64 (cond {A = Measured} b (record { number = 0; largest = zero64; scale = zero64 })
         (record { number = 0; largest = m; scale = scale_with m (unit_norm x m) })).scale)
     go true = zero-fits
     go false = div-fits binary64 _ root24
@@ -126,7 +125,7 @@ pub first_fits : (x : List Float) → T (fits binary64 (first_scale (choice_of x
 unfolding choice_of
 first_fits x = go (eq a.largest zero64) (is_normal a.scale)
   where
-    a : Scales
+    a : Measured
     a = lower_scale x
 
     go : (z n : Bool)

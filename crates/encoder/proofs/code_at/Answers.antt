@@ -3,22 +3,22 @@ use mathlib.Core.Path.{◌≡◌}
 use mathlib.Core.List.{List}
 use Prim.Native.Nat.{ℕ}
 use lib.Ieee.{Float, of_bits, div, neg}
+use Rattle.laws.specs.Words.{tab}
 use Rattle.float.specs.Calls.{quotients_of}
 use Rattle.score.specs.declared.Choice.{Choice}
 use Rattle.score.specs.declared.Choice.TheVariants.{Divide}
 use Rattle.search.specs.Parity.{parities_of}
-use Rattle.encoder.specs.declared.Code.{Code}
-use Rattle.encoder.specs.Encode.{two_scales, scaled_back, code_at}
+use Rattle.encoder.specs.Encode.{Coding, two_scales, scaled_back, code_at}
 use Rattle.encoder.proofs.code_at.Goals as goal
 
-divided : (ps : List ℕ) (x : List Float) (n : ℕ) (m s : Float) (h : Choice) (q : List Float) (b r : Code) → h ≡ Divide m s → q ≡ quotients_of x m
+divided : (ps : List ℕ) (x : List Float) (n : ℕ) (m s : Float) (h : Choice) (q : List Float) (b r : Coding) → h ≡ Divide m s → q ≡ quotients_of x m
     → b ≡ two_scales ps q s n → r ≡ scaled_back m b → r ≡ code_at ps h x n
 unfolding code_at
 divided ps x n m s h q b r e p u v = rw (e, ← p, ← u) v
 
 pub returns-in-Zero : goal.returns-in-Zero
-unfolding code_at of_bits div neg
-returns-in-Zero c = rw c.in-Zero.is c.zero_code.ensures
+unfolding code_at of_bits div neg tab
+returns-in-Zero c = rw c.in-Zero.is
 
 pub returns-in-Scale : goal.returns-in-Scale
 unfolding code_at

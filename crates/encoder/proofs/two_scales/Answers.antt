@@ -5,11 +5,10 @@ use Prim.Native.Nat.{ℕ}
 use lib.Ieee.{Float}
 use Rattle.score.specs.Scale.{second_scale}
 use Rattle.search.specs.Parity.{parities_of}
-use Rattle.encoder.specs.declared.Code.{Code}
-use Rattle.encoder.specs.Encode.{code_for, higher, two_scales}
+use Rattle.encoder.specs.Encode.{Coding, code_for, higher, two_scales}
 use Rattle.encoder.proofs.two_scales.Goals as goal
 
-both : (ps : List ℕ) (x : List Float) (s : Float) (n : ℕ) {a b r : Code} {s2 : Float} → a ≡ code_for ps x s n → s2 ≡ second_scale s
+both : (ps : List ℕ) (x : List Float) (s : Float) (n : ℕ) {a b r : Coding} {s2 : Float} → a ≡ code_for ps x s n → s2 ≡ second_scale s
     → b ≡ code_for ps x s2 n → r ≡ higher a b → r ≡ two_scales ps x s n
 unfolding two_scales
 both ps x s n p q u v = rw (← p, ← q, ← u) v

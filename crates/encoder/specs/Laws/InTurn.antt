@@ -10,8 +10,7 @@ use Rattle.score.specs.Samples.{AllFit, sample_number}
 use Rattle.score.specs.Scale.{choice_of}
 use Rattle.score.specs.declared.Choice.{Choice}
 use Rattle.score.specs.declared.Choice.TheVariants.{Zero}
-use Rattle.score.specs.declared.Chosen.{Chosen}
-use Rattle.score.specs.Choice.{chosen}
+use Rattle.score.specs.Choice.{Chosen, chosen}
 use Rattle.score.specs.Laws.Choice.{choice-accepted}
 use Rattle.encoder.specs.Encode.{empty_code, number_by, chosen_over, number_of, encode_over, in_turn}
 use Rattle.encoder.specs.Numbers.{by_accepted, is_accepted, is_refused}

@@ -1,41 +1,45 @@
--- `even::any_odd`: what is left of the words says what all of them say. Assumes nothing.
-use mathlib.Core.Path.{◌≡◌, ap, sym, ◌∙◌}
-use mathlib.Core.List.{List}
-use Prim.Native.Nat.{ℕ}
-use native.Mathlib.Omega.{arith}
-use borrow.Author.Tests.{eq-eqb, ne_eqb}
-use borrow.Author.Rules.{rules}
-use lib.ListN.{length, get_or, take, drop}
-use lib.Seq.{get_or-take, length-take-le}
+-- `even::any_odd` meets its contract: what the search through the words answers. Assumes nothing.
+use Rattle.std.specs.Prelude.{◌≡◌, refl, Bool, true, false, not, ◌||◌, List, [], ◌∷◌, ℕ, ◌<◌, eqb, length, take, Result, Ok, Err, is_err}
+use Rattle.std.proofs.Common.{rules, tests, sym, ap, ◌∙◌}
+use Rattle.std.specs.Bool.{MatchBool}
+use Rattle.std.specs.List.{AllWithin, HoldsAt, list_any}
+use Rattle.std.proofs.lemmas.Iterator.{YieldsList-from_slice, cases_from_any}
+use Rattle.std.proofs.lemmas.List.Elements.{All-from_all_within}
+use Rattle.std.proofs.lemmas.List.Folds.{list_any_at, list_any_none}
+use Rattle.refusal.specs.declared.Refusal.{Refusal}
+use Rattle.refusal.specs.Refusal.{number_in}
+use Rattle.refusal.proofs.Apart.{never_zero}
 use Rattle.even.specs.Even.{word_number, any_odd}
-use Rattle.even.specs.Laws.Page.{odd-next, odd_end}
 use Rattle.even.proofs.any_odd.Goals as goal
 
-pub returns-then-check-ne0 : goal.returns-then-check-ne0
-returns-then-check-ne0 c =
-    let l = c.loop-i in
-    let ws : List ℕ = take c.args.count c.args.words in
-    let e : length c.args.words ≡ 64 = search rules in
-    let n : length ws ≡ c.args.count = length-take-le c.args.count c.args.words (omega (arith, e, c.requires)) in
-    let g : get_or ws l.i 0 ≡ get_or c.args.words l.i 0 = get_or-take c.args.count c.args.words l.i 0 c.loop-i-test.true in
-    let o = ne_eqb (word_number (get_or c.args.words l.i 0)) 0 (λ z. c.if-check-ne0.true (c.check.ensures ∙ z)) in
-    sym (sym l.invariant.1 ∙ odd-next ws l.i (omega (arith, n, c.loop-i-test.true)) ∙ rw (g, o))
+odd : ℕ → Bool
+odd w = not (eqb (word_number w) 0)
 
-pub loop-i-preserved : goal.loop-i-preserved
-loop-i-preserved c =
-    let l = c.loop-i in
-    let ws : List ℕ = take c.args.count c.args.words in
-    let e : length c.args.words ≡ 64 = search rules in
-    let n : length ws ≡ c.args.count = length-take-le c.args.count c.args.words (omega (arith, e, c.requires)) in
-    let g : get_or ws l.i 0 ≡ get_or c.args.words l.i 0 = get_or-take c.args.count c.args.words l.i 0 c.loop-i-test.true in
-    let o = eq-eqb (word_number (get_or c.args.words l.i 0)) 0 (sym c.check.ensures ∙ c.if-check-ne0.false) in
-    (omega arith, sym (odd-next ws l.i (omega (arith, n, c.loop-i-test.true)) ∙ rw (g, o)) ∙ l.invariant.1)
+-- what the check of a word says
+told : {A : Type 0} (r : Result A Refusal) (w : ℕ) → number_in r ≡ word_number w → is_err r ≡ odd w
+unfolding odd
+told (Ok x) w e = rw (← e)
+told (Err f) w e = rw (← e, never_zero f)
+
+said_odd : {A : Type 0} (r : Result A Refusal) (w : ℕ) → number_in r ≡ word_number w → is_err r ≡ true → odd w ≡ true
+said_odd r w e h = sym (told r w e) ∙ h
+
+said_even : {A : Type 0} (r : Result A Refusal) (w : ℕ) → number_in r ≡ word_number w → is_err r ≡ false → odd w ≡ false
+said_even r w e h = sym (told r w e) ∙ h
+
+odd_listed : (ws : List ℕ) → any_odd ws ≡ list_any odd ws
+unfolding any_odd odd
+odd_listed [] = refl
+odd_listed (w ∷ ws) = ap (λ (b : Bool). odd w || b) (odd_listed ws)
+
+found : (ws : List ℕ) (r : Bool)
+    → MatchBool r ((k : ℕ) × (k < length ws) × HoldsAt (λ (w : ℕ). odd w ≡ true) ws k) (AllWithin (λ (w : ℕ). odd w ≡ false) ws 0 (length ws))
+    → r ≡ any_odd ws
+found ws true (k, i, h) = sym (odd_listed ws ∙ list_any_at odd ws k 0 i (h 0))
+found ws false h = sym (odd_listed ws ∙ list_any_none odd ws (All-from_all_within (λ (w : ℕ). odd w ≡ false) ws h))
 
 pub returns : goal.returns
 returns c =
-    let l = c.loop-i in
-    let ws : List ℕ = take c.args.count c.args.words in
-    let e : length c.args.words ≡ 64 = search rules in
-    let n : length ws ≡ c.args.count = length-take-le c.args.count c.args.words (omega (arith, e, c.requires)) in
-    let k : length ws ≡ l.i = omega (arith, n, c.loop-i-test.false, l.invariant.0) in
-    sym (odd_end ws) ∙ ap (λ (m : ℕ). any_odd (drop m ws)) k ∙ l.invariant.1
+    let ws = take c.args.count c.args.words in
+    found ws _ (cases_from_any _ _ _ (λ (w : ℕ). odd w ≡ true) (λ (w : ℕ). odd w ≡ false) c.any.ensures.ran
+    (YieldsList-from_slice ws cc) (λ w q k. search (rules, tests, said_odd)) (λ w q k. search (rules, tests, said_even)))

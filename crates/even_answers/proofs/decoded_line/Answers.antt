@@ -1,12 +1,12 @@
 -- `even_answers::decoded_line` meets its contract. Assumes nothing.
-use borrow.Author.Tests.{eq-eqb, ne_eqb}
+use Rattle.refusal.proofs.Apart.{never_zero}
 use Rattle.even_answers.specs.EvenAnswers.{decoded_line}
 use Rattle.even_answers.proofs.decoded_line.Goals as goal
 
-pub returns-then-d-ne0 : goal.returns-then-d-ne0
+pub returns-in-Ok : goal.returns-in-Ok
 unfolding decoded_line
-returns-then-d-ne0 c = rw (ne_eqb _ _ c.if-d-ne0.true) c.refused.ensures
+returns-in-Ok c = rw c.in-Ok.is c.point_line.ensures
 
-pub returns : goal.returns
+pub returns-in-Err : goal.returns-in-Err
 unfolding decoded_line
-returns c = rw (eq-eqb _ _ c.if-d-ne0.false) c.point_line.ensures
+returns-in-Err c = rw (c.in-Err.is, never_zero c.in-Err.r, ← c.number.ensures) c.refused.ensures

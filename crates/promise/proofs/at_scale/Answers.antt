@@ -3,6 +3,7 @@ use Rattle.std.proofs.Common.{◌≡◌, length, ◌∙◌}
 use borrow.Author.Rules.{rules}
 use Rattle.float.specs.Laws.Arrays.{each-held}
 use Rattle.score.specs.Samples.{AllFit}
+use Rattle.encoder.specs.Encode.{coded_by}
 use Rattle.promise.proofs.Shown.{of_scale}
 use Rattle.promise.proofs.at_scale.Goals as goal
 
@@ -12,5 +13,5 @@ returns c =
     let w = c.with_back in
     let l : length a.samples ≡ 24 = search rules in
     let f : AllFit a.samples = λ k. search (each-held, rules) in
-    of_scale a.samples l f w.result.code w.result.decoded w.result.encoded w.ensures.decoded_value w.ensures.encoded_value
+    of_scale a.samples l f (coded_by w.result.code) w.result.decoded w.result.encoded w.ensures.decoded_value w.ensures.encoded_value
     a.scale a.setting (search rules) (w.ensures.code_value ∙ c.encode_at_scale.ensures)

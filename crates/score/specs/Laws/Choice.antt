@@ -16,11 +16,10 @@ use Rattle.float.specs.Calls.{abs_of, quotients_of}
 use Rattle.float.specs.Laws.Exact.{parts, zero-fits}
 use Rattle.float.specs.Laws.Compare.{is_le, eq_zero, zero-eq}
 use Rattle.float.specs.Laws.Near.{abs-exactly}
-use Rattle.score.specs.declared.Scales.{Scales}
 use Rattle.score.specs.declared.Choice.{Choice}
 use Rattle.score.specs.declared.Choice.TheVariants.{Zero, Scale, Divide}
 use Rattle.score.specs.Samples.{AllFit, some, sample_number, is_scale}
-use Rattle.score.specs.Scale.{root24, least_normal64, largest_of, unit_norm, scale_with, is_normal, lower_scale, choice_of, second_scale}
+use Rattle.score.specs.Scale.{Measured, root24, least_normal64, largest_of, unit_norm, scale_with, is_normal, lower_scale, choice_of, second_scale}
 use Rattle.score.specs.Choice.{
   most_magnitude64,
   least_beside64,
@@ -208,7 +207,7 @@ lower-fits xs = go (eq (largest_of xs) zero64)
     m : Float
     m = largest_of xs
 
-    go : (b : Bool) → T (fits binary64 (cond {A = Scales} b (record { number = 0; largest = zero64; scale = zero64 })
+    go : (b : Bool) → T (fits binary64 (cond {A = Measured} b (record { number = 0; largest = zero64; scale = zero64 })
         (record { number = 0; largest = m; scale = scale_with m (unit_norm xs m) })).scale)
     go true = zero-fits
     go false = div-fits binary64 _ root24

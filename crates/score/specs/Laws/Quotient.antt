@@ -19,11 +19,11 @@ use Rattle.float.specs.Laws.Error.{Rounded}
 use Rattle.float.specs.Laws.Near.{abs-exactly}
 use Rattle.float.specs.Laws.Arithmetic.{div-fraction, fraction-rounded}
 use Rattle.float.specs.Laws.Arrays.{quotients-length, quotients-at}
-use Rattle.score.specs.declared.Scales.{Scales}
 use Rattle.score.specs.declared.Choice.{Choice}
 use Rattle.score.specs.declared.Choice.TheVariants.{Zero, Scale, Divide}
 use Rattle.score.specs.Samples.{AllFit, limit64, sample_number, scale_number}
 use Rattle.score.specs.Scale.{
+  Measured,
   least_normal64,
   largest_of,
   unit_norm,
@@ -215,7 +215,7 @@ pub choice_is : (xs : List Float) → choice_of xs ≡ chosen xs (eq (largest_of
 unfolding choice_of lower_scale
 choice_is xs = go (eq (largest_of xs) zero64) refl
   where
-    zeros : Scales
+    zeros : Measured
     zeros = record { number = 0; largest = zero64; scale = zero64 }
 
     go : (b : Bool) → eq (largest_of xs) zero64 ≡ b

@@ -14,9 +14,8 @@ use Rattle.score.specs.Laws.Sample.{UpTo, Sample, each_map, sample_number_zero}
 use Rattle.score.specs.Laws.Score.{doubles_are}
 use Rattle.search.specs.Parity.{both_parities}
 use Rattle.search.specs.Block.{point_from, winner_for}
-use Rattle.encoder.specs.Encode.{code_of, code_for, number_at, encode_at_over}
+use Rattle.encoder.specs.Encode.{Coding, code_of, code_for, number_at, encode_at_over}
 use Rattle.encoder.specs.Numbers.{at-accepted, at-refused}
-use Rattle.encoder.specs.declared.Code.{Code}
 use Rattle.page.specs.Page.{Fit}
 use Rattle.writer.specs.Writer.{scale_of, is_wide, is_far, word_for, words_for, Wide, Far}
 
@@ -115,9 +114,9 @@ word_small s xs i = go (eqb (number_at x s 8) 0) refl
 
     go : (b : Bool) → eqb (number_at x s 8) 0 ≡ b → (encode_at_over both_parities x s 8).word < 2 ^ 47
     go true e =
-        subst (λ (c : Code). c.word < 2 ^ 47) (sym (at-accepted both_parities x s 8 (eqb-true _ 0 e)))
+        subst (λ (c : Coding). c.word < 2 ^ 47) (sym (at-accepted both_parities x s 8 (eqb-true _ 0 e)))
         (Demand2·word_small (point_from (winner_for both_parities 8 (quotients_of x s))) (tab-length ℤ _ 24))
-    go false e = subst (λ (c : Code). c.word < 2 ^ 47) (sym (at-refused both_parities x s 8 (eqb-false _ 0 e))) (lit≤ tt)
+    go false e = subst (λ (c : Coding). c.word < 2 ^ 47) (sym (at-refused both_parities x s 8 (eqb-false _ 0 e))) (lit≤ tt)
 
 -- so those of a page fit it
 pub words_fit : (s : Float) (xs : List ℤ) (count : ℕ) → Fit (words_for s xs count)

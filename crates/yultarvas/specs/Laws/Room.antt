@@ -1,12 +1,12 @@
 -- Room for a block: 24 places are enough, and a shorter slice is answered by document 01's number 8 before
 -- everything else, with what was lent left as it was. First for any call, then call by call. Assumes nothing.
+use Rattle.encoder.specs.Encode.{Coding}
 use Rattle.std.specs.Prelude.{◌≡◌, refl, Bool, true, false, ◌||◌, ◌↔◌, List, ◌++◌, ℕ, ◌<◌, ◌≤◌, ℤ, Float, length, take, drop}
 use Rattle.std.proofs.Common.{sym, eq-eqb, ne_eqb, lt-ltb, le-ltb, length-take-le}
 use Rattle.refusal.specs.Refusal.{outside}
 use Rattle.tetra.specs.Tetra.{point_of}
 use Rattle.tetra.specs.Encode.{encode_of}
 use Rattle.tetra.specs.Demand2.{section-told}
-use Rattle.encoder.specs.declared.Code.{Code}
 use Rattle.yultarvas.specs.Calls.{
   room_first,
   short,
@@ -79,7 +79,7 @@ pub outside_short : (y : List ℤ) → length y < 24 → outside_section y ≡ 0
 outside_short y h = rw (lt-ltb (length y) 24 h)
 
 -- ---- samples to their code
-module _ (x : List Float) (old : List ℤ) (c : Code) where
+module _ (x : List Float) (old : List ℤ) (c : Coding) where
   pub code_room : 24 ≤ length x → 24 ≤ length old → code_number x old c ≡ c.number
   code_room h k = sym (both x old c.number h k)
 

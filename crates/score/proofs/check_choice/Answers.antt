@@ -1,4 +1,4 @@
--- `score::choice_number` meets its contract, by the three choices. Assumes nothing.
+-- `score::check_choice` meets its contract, by the three choices. Assumes nothing.
 use mathlib.Core.Path.{◌≡◌}
 use mathlib.Core.Bool.{Bool}
 use mathlib.Core.List.{List}
@@ -8,7 +8,7 @@ use Rattle.float.specs.Calls.{quotients_of}
 use Rattle.score.specs.declared.Choice.{Choice}
 use Rattle.score.specs.declared.Choice.TheVariants.{Scale, Divide}
 use Rattle.score.specs.Choice.{is_pair, is_division, number_for, choice_number}
-use Rattle.score.proofs.choice_number.Goals as goal
+use Rattle.score.proofs.check_choice.Goals as goal
 
 at_scale_lem : (x : List Float) (s : Float) (h : Choice) (a : Bool) (r : ℕ) → h ≡ Scale s → a ≡ is_pair s → r ≡ number_for a x x s → r ≡ choice_number h x
 unfolding choice_number
@@ -21,15 +21,15 @@ divided x m s h a q r e u p v = rw (e, ← u, ← p) v
 
 pub returns-in-Zero : goal.returns-in-Zero
 unfolding choice_number
-returns-in-Zero c = rw c.in-Zero.is c.zero_number.ensures
+returns-in-Zero c = rw c.in-Zero.is c.check_zeros.ensures
 
 pub returns-in-Scale : goal.returns-in-Scale
 returns-in-Scale c =
     let a = c.args in
-    at_scale_lem a.samples _ a.choice _ _ c.in-Scale.is c.is_pair.ensures c.number_for.ensures
+    at_scale_lem a.samples _ a.choice _ _ c.in-Scale.is c.is_pair.ensures c.check_coded.ensures
 
 pub returns-in-Divide : goal.returns-in-Divide
 returns-in-Divide c =
     let a = c.args in
     divided a.samples _ _ a.choice _ _ _ c.in-Divide.is c.is_division.ensures c.quotients.ensures
-    c.number_for-in-Divide.ensures
+    c.check_coded-in-Divide.ensures
