@@ -8,7 +8,7 @@ use Rattle.text.specs.Doubles.{bits_shown}
 use Rattle.text.specs.Lines.{onRead}
 use Rattle.tetra.specs.Tetra.{point_of}
 use Rattle.tetra.specs.Encode.{encode_of}
-use Rattle.tetra.specs.declared.Encoded.{Encoded}
+use Rattle.tetra.specs.Encode.{Encoded}
 use Rattle.score.specs.Score.{Scored, scored}
 use Rattle.score.specs.Scale.{Measured, scales}
 use Rattle.search.specs.Parity.{both_parities}

@@ -17,6 +17,8 @@
 
 ghost use Rattle.std.specs.Prelude.{◌≡◌};
 ghost use Rattle.text.specs.Text.{refused_text};
+ghost use Rattle.refusal.specs.Refusal.{number_of, section_of};
+ghost use Rattle.tetra.specs.Encode.{encoded_by};
 ghost use Rattle.search.specs.Parity.{parities_of};
 ghost use Rattle.answers.specs.Answers.{no_request, point_line, refused_point, encoded_line, code_line, scales_line, score_line};
 ghost use Rattle.score.specs.Scale.{measured_by};
@@ -29,7 +31,6 @@ use encoder::Code;
 use refusal::Refusal;
 use request::{after_name, last, read_decimal, read_double, read_hex, read_point, read_samples};
 use score::Scales;
-use tetra::Encoded;
 use text::Printed;
 
 // A line of at most 336 bytes, its LF included.
@@ -63,9 +64,11 @@ pub fn point_line(y: [i32; 24]) -> Reply
 }
 
 // A refusal that is about a section names it.
-fn refused_point(number: u32, section: u32) -> Reply
-    ensures { result ≡ refused_point number section }
+fn refused_point(reason: Refusal) -> Reply
+    ensures { result ≡ refused_point (number_of reason) (section_of reason) }
 {
+    let number = reason.number();
+    let section = reason.section();
     if section == 0 {
         return refused(number);
     }
@@ -76,17 +79,20 @@ fn refused_point(number: u32, section: u32) -> Reply
     line
 }
 
-pub fn word_line(e: Encoded) -> Reply
-    ensures { result ≡ encoded_line e }
+// The line of a point's word, or of the reason why it has none.
+pub fn word_line(coded: Result<u64, Refusal>) -> Reply
+    ensures { result ≡ encoded_line (encoded_by coded) }
 {
-    if e.number != 0 {
-        return refused_point(e.number, e.section);
+    match coded {
+        Ok(word) => {
+            let mut line = Reply::new();
+            line.put(b"word=");
+            line.put_hex(word, 12);
+            line.put(b"\n");
+            line
+        }
+        Err(reason) => refused_point(reason),
     }
-    let mut line = Reply::new();
-    line.put(b"word=");
-    line.put_hex(e.word, 12);
-    line.put(b"\n");
-    line
 }
 
 fn code_line(answer: Result<Code, Refusal>) -> Reply

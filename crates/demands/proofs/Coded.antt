@@ -10,7 +10,7 @@ use Rattle.tetra.specs.Lattice.{HasWord}
 use Rattle.tetra.specs.Encode.{encode_of}
 use Rattle.tetra.specs.Demand2.{accepts, round_trip}
 use Rattle.tetra.specs.Points.{P}
-use Rattle.tetra.specs.declared.Encoded.{Encoded}
+use Rattle.tetra.specs.Encode.{Encoded}
 use Rattle.float.specs.Calls.{quotients_of}
 use Rattle.float.specs.Laws.Arrays.{quotients-length}
 use Rattle.score.specs.Samples.{AllFit, sample_number, scale_number}

@@ -126,10 +126,9 @@ fn code_of(samples: [f64; 24], w: Winner) -> Code
     ensures { coded_by (Ok result) ≡ code_of samples (winner_by w) }
 {
     let point = point_of(w);
-    let e = tetra::encode(point);
     let score = score::score(samples, point);
     Code {
-        word: e.word,
+        word: tetra::encode(point).unwrap_or(0),
         point,
         score,
     }

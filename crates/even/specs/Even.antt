@@ -8,7 +8,7 @@ use Rattle.word.specs.Word.{fields_of}
 use Rattle.rank.specs.Section.{uniform}
 use Rattle.tetra.specs.Tetra.{point_of}
 use Rattle.tetra.specs.Encode.{refused_with, encode_of}
-use Rattle.tetra.specs.declared.Encoded.{Encoded}
+use Rattle.tetra.specs.Encode.{Encoded}
 use Rattle.page.specs.Answer.{PageRead, Reading, words_in, read_of, cells_of}
 
 -- ---- a word: its number is 13 where its p is 1

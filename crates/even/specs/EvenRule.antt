@@ -13,7 +13,7 @@ use Rattle.tetra.specs.Encode.{refused_with, accepted_with, encode_of}
 use Rattle.tetra.specs.Why.{OfParity, Why, has_word, mixed_parity_lem, no_codeword_lem, outside-bound, wrong_sum_lem}
 use Rattle.tetra.specs.Demand2.{point-length, parity_is, round_trip, Accepted, accepts, why, accepted-back, onto}
 use Rattle.tetra.specs.Laws.Orders.{uniform-at, at-uniform}
-use Rattle.tetra.specs.declared.Encoded.{Encoded}
+use Rattle.tetra.specs.Encode.{Encoded}
 use Rattle.page.specs.Page.{Page}
 use Rattle.page.specs.Answer.{Reading, malformed, words_in, read_of, cells_of}
 use Rattle.page.specs.Reader.{reading_of}

@@ -9,12 +9,12 @@ ghost use Rattle.page.specs.Answer.{read_by};
 ghost use Rattle.refusal.specs.Refusal.{number_in};
 ghost use Rattle.page.specs.Reader.{reading_of};
 ghost use Rattle.search.specs.Parity.{even_parities};
+ghost use Rattle.tetra.specs.Encode.{encoded_by};
 ghost use Rattle.encoder.specs.Encode.{coded_by, encode_at_over, encode_over, encode_samples_over};
 ghost use Rattle.even.specs.Even.{word_number, decoded_by, even_decoded, even_encoded, any_odd, even_read, even_cells};
 
 use encoder::Code;
 use refusal::Refusal;
-use tetra::Encoded;
 
 // ---- words
 // Whether the profile has the word: refused with 13 where its p, bit 0, is 1. No other bit counts.
@@ -39,15 +39,11 @@ pub fn decode(word: u64) -> Result<[i32; 24], Refusal>
 // ---- points
 // The word that decodes to a point given in natural order, with gain 0; or why there is none: 5 for mixed parities, then 13 where all coordinates
 // are odd, then 10, 11, 12. A point that is not all odd has its 5 from the full coder.
-pub fn encode_point(point: [i32; 24]) -> Encoded
-    ensures { result ≡ even_encoded point }
+pub fn encode_point(point: [i32; 24]) -> Result<u64, Refusal>
+    ensures { encoded_by result ≡ even_encoded point }
 {
     if tetra::one_parity(point, 1) {
-        return Encoded {
-            number: refusal::ALL_ODD,
-            section: 0,
-            word: 0,
-        };
+        return Err(Refusal::AllOdd);
     }
     tetra::encode(point)
 }

@@ -11,7 +11,7 @@ use Rattle.tetra.specs.Lattice.{HasWord}
 use Rattle.tetra.specs.Tetra.{point_of}
 use Rattle.tetra.specs.Encode.{encode_of}
 use Rattle.tetra.specs.Demand2.{point-length}
-use Rattle.tetra.specs.declared.Encoded.{Encoded}
+use Rattle.tetra.specs.Encode.{Encoded}
 use Rattle.score.specs.Samples.{AllFit}
 use Rattle.search.specs.Parity.{even_parities}
 use Rattle.encoder.specs.Encode.{Coding, number_at, encode_at_over, encode_at_scale, number_of, encode_over}

@@ -18,7 +18,7 @@ use Rattle.tetra.specs.Tetra.{point_of}
 use Rattle.tetra.specs.Encode.{encode_of}
 use Rattle.tetra.specs.Why.{Why, Refused}
 use Rattle.tetra.specs.Demand2.{decodes, round_trip, accepts, refuses, refused_iff, accepted-back, why, one_reason}
-use Rattle.tetra.specs.declared.Encoded.{Encoded}
+use Rattle.tetra.specs.Encode.{Encoded}
 use Rattle.float.specs.Value.{mag_units, is_minus, zero64}
 use Rattle.float.specs.Laws.Exact.{no_digits, some-digits}
 use Rattle.root.specs.Root.{NearestRoot, Rooted, rooted}

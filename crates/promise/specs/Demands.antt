@@ -48,7 +48,7 @@ use Rattle.tetra.specs.Lattice.{LatticePoint, HasWord}
 use Rattle.tetra.specs.Why.{OfParity, Why, Refused}
 use Rattle.tetra.specs.Tetra.{point_of}
 use Rattle.tetra.specs.Block.{block_at}
-use Rattle.tetra.specs.declared.Encoded.{Encoded}
+use Rattle.tetra.specs.Encode.{Encoded}
 use Rattle.float.specs.Value.{mag_units, is_minus, zero64}
 use Rattle.float.specs.Calls.{quotients_of}
 use Rattle.float.specs.Distance.{sq_dist, margin}

@@ -6,7 +6,7 @@
 
 ghost use Rattle.std.specs.Prelude.{◌≡◌};
 ghost use Rattle.tetra.specs.Tetra.{point_of};
-ghost use Rattle.tetra.specs.Encode.{encode_of};
+ghost use Rattle.tetra.specs.Encode.{encoded_by, encode_of};
 ghost use Rattle.score.specs.Samples.{sample_number};
 ghost use Rattle.score.specs.Score.{t_of, scored_by};
 ghost use Rattle.score.specs.Scale.{lower_scale, measured_by};
@@ -42,20 +42,19 @@ use page::Page;
 use refusal::Refusal;
 use score::Scales;
 use shown::Printed;
-use tetra::Encoded;
 use writer::Unwritten;
 
 // A word's point, and what the point encodes to.
 #[derive(Clone, Copy)]
 pub struct FromWord {
     pub point: [i32; 24],
-    pub back: Encoded,
+    pub back: Result<u64, Refusal>,
 }
 
 // A point's word, and what the word decodes to.
 #[derive(Clone, Copy)]
 pub struct FromPoint {
-    pub coded: Encoded,
+    pub coded: Result<u64, Refusal>,
     pub back: [i32; 24],
 }
 
@@ -64,7 +63,7 @@ pub struct FromPoint {
 pub struct FromSamples {
     pub code: Result<Code, Refusal>,
     pub decoded: [i32; 24],
-    pub encoded: Encoded,
+    pub encoded: Result<u64, Refusal>,
 }
 
 // Whether the even profile has a word, its point, and what the point encodes to.
@@ -72,14 +71,14 @@ pub struct FromSamples {
 pub struct EvenFromWord {
     pub checked: Result<(), Refusal>,
     pub decoded: Result<[i32; 24], Refusal>,
-    pub back: Encoded,
+    pub back: Result<u64, Refusal>,
 }
 
 // A point's word in the profile, the full coder's answer, and what the profile's word decodes to.
 #[derive(Clone, Copy)]
 pub struct EvenFromPoint {
-    pub coded: Encoded,
-    pub full: Encoded,
+    pub coded: Result<u64, Refusal>,
+    pub full: Result<u64, Refusal>,
     pub back: Result<[i32; 24], Refusal>,
 }
 
@@ -88,7 +87,7 @@ pub struct EvenFromPoint {
 pub struct EvenFromSamples {
     pub code: Result<Code, Refusal>,
     pub decoded: Result<[i32; 24], Refusal>,
-    pub encoded: Encoded,
+    pub encoded: Result<u64, Refusal>,
 }
 
 // The profile's code of samples, and the full coder's.
@@ -102,7 +101,7 @@ pub struct EvenAndFull {
 // `decode`, and `encode` of its point.
 pub fn from_word(word: u64) -> FromWord
     ensures point_of_word { PointOfWord word result.point }
-    ensures back_to_word { BackToWord word result.back }
+    ensures back_to_word { BackToWord word (encoded_by result.back) }
 {
     let point = tetra::decode(word);
     let back = tetra::encode(point);
@@ -111,14 +110,14 @@ pub fn from_word(word: u64) -> FromWord
 
 // `encode`, and `decode` of its word.
 pub fn from_point(point: [i32; 24]) -> FromPoint
-    ensures refuses_others { RefusesOthers point result.coded }
-    ensures accepts_members { AcceptsMembers point result.coded }
-    ensures keeps_point { KeepsPoint point result.coded result.back }
-    ensures refuses_by_four { RefusesByFour result.coded }
-    ensures says_why { SaysWhy point result.coded }
+    ensures refuses_others { RefusesOthers point (encoded_by result.coded) }
+    ensures accepts_members { AcceptsMembers point (encoded_by result.coded) }
+    ensures keeps_point { KeepsPoint point (encoded_by result.coded) result.back }
+    ensures refuses_by_four { RefusesByFour (encoded_by result.coded) }
+    ensures says_why { SaysWhy point (encoded_by result.coded) }
 {
     let coded = tetra::encode(point);
-    let back = tetra::decode(coded.word);
+    let back = tetra::decode(coded.unwrap_or(0));
     FromPoint { coded, back }
 }
 
@@ -128,7 +127,7 @@ pub fn from_point(point: [i32; 24]) -> FromPoint
 pub fn at_scale(samples: [f64; 24], scale: f64, setting: u32) -> FromSamples
     ensures numbered { Numbered (number_at samples scale setting) (coded_by result.code) }
     ensures code_value { coded_by result.code ≡ encode_at_scale samples scale setting }
-    ensures keeps_code { KeepsCode (coded_by result.code) result.decoded result.encoded }
+    ensures keeps_code { KeepsCode (coded_by result.code) result.decoded (encoded_by result.encoded) }
     ensures returns_nearest { ReturnsNearest samples scale (coded_by result.code) }
 {
     with_back(encoder::encode_at_scale(samples, scale, setting))
@@ -138,7 +137,7 @@ pub fn at_scale(samples: [f64; 24], scale: f64, setting: u32) -> FromSamples
 pub fn with_setting(samples: [f64; 24], setting: u32) -> FromSamples
     ensures numbered { Numbered (number_of samples setting) (coded_by result.code) }
     ensures code_value { coded_by result.code ≡ encode_with samples setting }
-    ensures keeps_code { KeepsCode (coded_by result.code) result.decoded result.encoded }
+    ensures keeps_code { KeepsCode (coded_by result.code) result.decoded (encoded_by result.encoded) }
 {
     with_back(encoder::encode_with(samples, setting))
 }
@@ -147,7 +146,7 @@ pub fn with_setting(samples: [f64; 24], setting: u32) -> FromSamples
 pub fn at_own_scale(samples: [f64; 24]) -> FromSamples
     ensures numbered { Numbered (sample_number samples) (coded_by result.code) }
     ensures code_value { coded_by result.code ≡ encode_samples samples }
-    ensures keeps_code { KeepsCode (coded_by result.code) result.decoded result.encoded }
+    ensures keeps_code { KeepsCode (coded_by result.code) result.decoded (encoded_by result.encoded) }
 {
     with_back(encoder::encode(samples))
 }
@@ -170,7 +169,7 @@ fn word_and_point(code: Result<Code, Refusal>) -> (u64, [i32; 24])
 fn with_back(code: Result<Code, Refusal>) -> FromSamples
     ensures code_value { coded_by result.code ≡ coded_by code }
     ensures decoded_value { result.decoded ≡ point_of (coded_by result.code).word }
-    ensures encoded_value { result.encoded ≡ encode_of (coded_by result.code).point }
+    ensures encoded_value { encoded_by result.encoded ≡ encode_of (coded_by result.code).point }
 {
     let (word, point) = word_and_point(code);
     let decoded = tetra::decode(word);
@@ -305,7 +304,7 @@ pub fn added_word(text: &[u8], word: u64, rows: &mut [i32]) -> Result<usize, Ref
 pub fn even_word(word: u64) -> EvenFromWord
     ensures checks_word { ChecksWord word (number_in result.checked) }
     ensures decodes_even { DecodesEven word (decoded_by result.decoded) }
-    ensures back_to_even { BackToEven word result.back }
+    ensures back_to_even { BackToEven word (encoded_by result.back) }
 {
     let checked = even::check(word);
     let decoded = even::decode(word);
@@ -319,13 +318,13 @@ pub fn even_word(word: u64) -> EvenFromWord
 
 // `encode_point`, the full coder's `encode` beside it, and `decode` of its word.
 pub fn even_point(point: [i32; 24]) -> EvenFromPoint
-    ensures accepts_even { AcceptsEven point result.coded }
-    ensures refuses_odd { RefusesOdd point result.coded result.full }
-    ensures keeps_even_point { KeepsEvenPoint point result.coded (decoded_by result.back) }
+    ensures accepts_even { AcceptsEven point (encoded_by result.coded) }
+    ensures refuses_odd { RefusesOdd point (encoded_by result.coded) (encoded_by result.full) }
+    ensures keeps_even_point { KeepsEvenPoint point (encoded_by result.coded) (decoded_by result.back) }
 {
     let coded = even::encode_point(point);
     let full = tetra::encode(point);
-    let back = even::decode(coded.word);
+    let back = even::decode(coded.unwrap_or(0));
     EvenFromPoint { coded, full, back }
 }
 
@@ -333,7 +332,7 @@ pub fn even_point(point: [i32; 24]) -> EvenFromPoint
 pub fn even_at_scale(samples: [f64; 24], scale: f64, setting: u32) -> EvenFromSamples
     ensures numbered { Numbered (number_at samples scale setting) (coded_by result.code) }
     ensures code_value { coded_by result.code ≡ encode_at_over even_parities samples scale setting }
-    ensures keeps_even_code { KeepsEvenCode (coded_by result.code) (decoded_by result.decoded) result.encoded }
+    ensures keeps_even_code { KeepsEvenCode (coded_by result.code) (decoded_by result.decoded) (encoded_by result.encoded) }
     ensures returns_nearest_even { ReturnsNearestEven samples scale (coded_by result.code) }
 {
     with_even_back(even::encode_at_scale(samples, scale, setting))
@@ -352,7 +351,7 @@ pub fn even_beside_full(samples: [f64; 24], scale: f64, setting: u32) -> EvenAnd
 pub fn even_with_setting(samples: [f64; 24], setting: u32) -> EvenFromSamples
     ensures numbered { Numbered (number_of samples setting) (coded_by result.code) }
     ensures code_value { coded_by result.code ≡ encode_over even_parities samples setting }
-    ensures keeps_even_code { KeepsEvenCode (coded_by result.code) (decoded_by result.decoded) result.encoded }
+    ensures keeps_even_code { KeepsEvenCode (coded_by result.code) (decoded_by result.decoded) (encoded_by result.encoded) }
 {
     with_even_back(even::encode_with(samples, setting))
 }
@@ -361,7 +360,7 @@ pub fn even_with_setting(samples: [f64; 24], setting: u32) -> EvenFromSamples
 pub fn even_at_own_scale(samples: [f64; 24]) -> EvenFromSamples
     ensures numbered { Numbered (sample_number samples) (coded_by result.code) }
     ensures code_value { coded_by result.code ≡ encode_samples_over even_parities samples }
-    ensures keeps_even_code { KeepsEvenCode (coded_by result.code) (decoded_by result.decoded) result.encoded }
+    ensures keeps_even_code { KeepsEvenCode (coded_by result.code) (decoded_by result.decoded) (encoded_by result.encoded) }
 {
     with_even_back(even::encode(samples))
 }
@@ -370,7 +369,7 @@ pub fn even_at_own_scale(samples: [f64; 24]) -> EvenFromSamples
 fn with_even_back(code: Result<Code, Refusal>) -> EvenFromSamples
     ensures code_value { coded_by result.code ≡ coded_by code }
     ensures decoded_value { decoded_by result.decoded ≡ even_decoded (coded_by result.code).word }
-    ensures encoded_value { result.encoded ≡ even_encoded (coded_by result.code).point }
+    ensures encoded_value { encoded_by result.encoded ≡ even_encoded (coded_by result.code).point }
 {
     let (word, point) = word_and_point(code);
     let decoded = even::decode(word);

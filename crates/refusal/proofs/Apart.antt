@@ -39,6 +39,23 @@ back WrongSum = refl
 back AllOdd = refl
 back Disagrees = refl
 
+-- no reason carries the number of a call that is accepted
+pub never_0 : (r : Refusal) → number_of r ≡ 0 → ⊥
+never_0 NotFinite e = omega arith
+never_0 TooLarge e = omega arith
+never_0 NoScale e = omega arith
+never_0 TooFar e = omega arith
+never_0 MixedParity e = omega arith
+never_0 TooWide e = omega arith
+never_0 OutOfRange e = omega arith
+never_0 NoRoom e = omega arith
+never_0 NoPage e = omega arith
+never_0 NoCodeword e = omega arith
+never_0 (Outside section) e = omega arith
+never_0 WrongSum e = omega arith
+never_0 AllOdd e = omega arith
+never_0 Disagrees e = omega arith
+
 pub told_apart : (r s : Refusal) → number_of r ≡ number_of s → section_of r ≡ section_of s → r ≡ s
 told_apart r s n i = sym (back r) ∙ ap₂ reason_of n i ∙ back s
 

@@ -3,7 +3,7 @@
 #![tactic(auto)]
 
 ghost use Rattle.std.specs.Prelude.{◌≡◌};
-ghost use Rattle.refusal.specs.Refusal.{numbers, number_of};
+ghost use Rattle.refusal.specs.Refusal.{numbers, number_of, section_of};
 
 // Why a call is refused.
 #[derive(Clone, Copy, Debug, PartialEq, Eq)]
@@ -58,6 +58,16 @@ impl Refusal {
             Refusal::WrongSum => 12,
             Refusal::AllOdd => 13,
             Refusal::Disagrees => 14,
+        }
+    }
+
+    // The section that the reason is about, counted from 1; 0 where it is about none.
+    pub fn section(self) -> u32
+        ensures { result ≡ section_of self }
+    {
+        match self {
+            Refusal::Outside { section } => section,
+            _ => 0,
         }
     }
 }

@@ -18,7 +18,7 @@ use Rattle.tetra.specs.Laws.Orders.{natural-length, natural-at, natural-trio}
 use Rattle.tetra.specs.Laws.Point.{bits_are, point-small}
 use Rattle.tetra.specs.Laws.Word.{trio_of_lem, word_parity, decoded, fields-narrow, fields-point, fields_back}
 use Rattle.tetra.specs.Laws.Reason.{answered, told}
-use Rattle.tetra.specs.declared.Encoded.{Encoded}
+use Rattle.tetra.specs.Encode.{Encoded}
 
 -- ---- every word decodes to 24 coordinates, of magnitude 10 at most, that are a lattice point and have a word
 pub point-length : (w : ℕ) → length (point_of w) ≡ 24

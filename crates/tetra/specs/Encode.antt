@@ -1,7 +1,7 @@
 -- The word of a point, or why it has none, as `encode` answers it. Demand2 shows that no other answer fits. Assumes nothing.
-use Rattle.std.specs.Prelude.{Bool, cond, List, ℕ, ltb, eqb, ℤ, pos, get_or}
+use Rattle.std.specs.Prelude.{Bool, cond, List, ℕ, ltb, eqb, ℤ, pos, get_or, Result, Ok, Err}
 use Rattle.laws.specs.Words.{mod_z}
-use Rattle.refusal.specs.Refusal.{mixed_parity, no_codeword, outside, wrong_sum}
+use Rattle.refusal.specs.Refusal.{mixed_parity, no_codeword, outside, wrong_sum, number_of, section_of}
 use Rattle.word.specs.Word.{word_of}
 use Rattle.word.specs.declared.Fields.{Fields}
 use Rattle.rank.specs.Coord.{parity_of}
@@ -11,7 +11,7 @@ use Rattle.rows.specs.declared.Seated.{Seated}
 use Rattle.rows.specs.declared.Seated.TheVariants.{At, Nothing}
 use Rattle.trellis.specs.Trellis.{label_of, s8_of, b1_of, b2_of, b3_of}
 use Rattle.tetra.specs.Lattice.{trio, section_ranks, in_bound}
-use Rattle.tetra.specs.declared.Encoded.{Encoded}
+use Rattle.refusal.specs.declared.Refusal.{Refusal}
 
 -- ---- the tests, in the order in which they are made; that of a section's bound, `in_bound`, stands in Lattice
 -- the parity of the first coordinate, which is that of all
@@ -51,7 +51,19 @@ fields_for y =
     (seat_index (mixed_index_of (section_ranks y 1))) (seat_index (class_index_of (section_ranks y 2)))
 
 -- ---- the answer
--- no word: the number of the reason, the section that it is about, counted from 1, or 0, and word 0
+-- in document 02's terms: number 0 and the word; or the number of the reason why there is none, and word 0. The section, counted from 1, is the
+-- one that the reason is about, and else 0.
+pub record Encoded : Type 0 where
+  pub number : ℕ
+  pub section : ℕ
+  pub word : ℕ
+
+-- what a call answers, in these terms
+abbrev pub encoded_by : Result ℕ Refusal → Encoded
+encoded_by (Ok w) = record { number = 0; section = 0; word = w }
+encoded_by (Err r) = record { number = number_of r; section = section_of r; word = 0 }
+
+-- no word, and a word
 abbrev pub refused_with : ℕ → ℕ → Encoded
 refused_with n s = record { number = n; section = s; word = 0 }
 

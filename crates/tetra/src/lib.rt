@@ -10,10 +10,11 @@ ghost use Rattle.rank.specs.Answers.{marks_of};
 ghost use Rattle.rows.specs.Table.{row_ranks, middle_row};
 ghost use Rattle.tetra.specs.Lattice.{trio};
 ghost use Rattle.tetra.specs.Tetra.{trio_point, trio_point_of, natural, point_of, patterns_of};
-ghost use Rattle.tetra.specs.Encode.{refused_with, accepted_with, fields_by, encode_of};
+ghost use Rattle.tetra.specs.Encode.{fields_by, encoded_by, encode_of};
 ghost use Rattle.tetra.specs.Block.{block_at};
 
 // The tables, read by a place, and the lookups of rank vectors: the accessors of the Rust's `Tetra`.
+use refusal::Refusal;
 pub use rows::{class_index, mixed_index, row};
 pub use trellis::{branch, order, prefix, suffix};
 
@@ -23,15 +24,6 @@ pub struct Bytes {
     pub c1: u8,
     pub c2: u8,
     pub c3: u8,
-}
-
-// What `encode` answers: number 0 and the word; or the number of the reason why there is none, and word 0. The section, 1 to 3, is the lowest one
-// outside its bound where that is the reason, and else 0.
-#[derive(Clone, Copy)]
-pub struct Encoded {
-    pub number: u32,
-    pub section: u32,
-    pub word: u64,
 }
 
 // ---- from a word to its point
@@ -160,26 +152,6 @@ pub fn patterns(word: u64) -> Bytes
 }
 
 // ---- from a point to its word
-fn refused(number: u32, section: u32) -> Encoded
-    ensures { result ≡ refused_with number section }
-{
-    Encoded {
-        number,
-        section,
-        word: 0,
-    }
-}
-
-fn accepted(word: u64) -> Encoded
-    ensures { result ≡ accepted_with word }
-{
-    Encoded {
-        number: 0,
-        section: 0,
-        word,
-    }
-}
-
 // Whether all coordinates have parity `p`.
 pub fn one_parity(y: [i32; 24], p: u32) -> bool
     ensures { result ≡ uniform p y }
@@ -252,43 +224,40 @@ fn word_by(p: u32, x: u32, r: u32, i1: u16, i2: u16, i3: u16) -> u64
 // The word that decodes to a point given in natural order, with gain 0; or why there is none. The tests stand in the order in which the reasons
 // are told: one parity, a codeword of bits, three sections within their bounds, and the sum of k. The third section is looked up in its own
 // class; that it is not the class which the other two leave to it shows only then, and is the wrong sum.
-pub fn encode(point: [i32; 24]) -> Encoded
-    ensures { result ≡ encode_of point }
+pub fn encode(point: [i32; 24]) -> Result<u64, Refusal>
+    ensures { encoded_by result ≡ encode_of point }
 {
     let p = rank::parity(point[0]);
     if !one_parity(point, p) {
-        return refused(refusal::MIXED_PARITY, 0);
+        return Err(Refusal::MixedParity);
     }
     let t = to_trio(point);
-    let Some(x) = trellis::label_of(bits(t)) else {
-        return refused(refusal::NO_CODEWORD, 0);
-    };
+    let x = trellis::label_of(bits(t)).ok_or(Refusal::NoCodeword)?;
     let rows::Seated::At {
         class: r,
         index: i1,
     } = rows::class_index(marks(t, 0))
     else {
-        return refused(refusal::OUTSIDE, 1);
+        return Err(Refusal::Outside { section: 1 });
     };
     let rows::Seated::At {
         class: d,
         index: i2,
     } = rows::mixed_index(marks(t, 1))
     else {
-        return refused(refusal::OUTSIDE, 2);
+        return Err(Refusal::Outside { section: 2 });
     };
     let rows::Seated::At {
         class: r3,
         index: i3,
     } = rows::class_index(marks(t, 2))
     else {
-        return refused(refusal::OUTSIDE, 3);
+        return Err(Refusal::Outside { section: 3 });
     };
     if r3 != (p + r + d) % 2 {
-        return refused(refusal::WRONG_SUM, 0);
+        return Err(Refusal::WrongSum);
     }
-    let word = word_by(p, x, r, i1, i2, i3);
-    accepted(word)
+    Ok(word_by(p, x, r, i1, i2, i3))
 }
 
 // ---- a block of a longer list

@@ -3,7 +3,7 @@ use Rattle.std.specs.Prelude.{Bool, cond, ◌||◌, List, ◌++◌, ℕ, ◌+◌
 use Rattle.refusal.specs.Refusal.{no_room}
 use Rattle.tetra.specs.Tetra.{point_of}
 use Rattle.tetra.specs.Encode.{encode_of}
-use Rattle.tetra.specs.declared.Encoded.{Encoded}
+use Rattle.tetra.specs.Encode.{Encoded}
 use Rattle.page.specs.Answer.{Reading, number_in, words_in, read_of, cells_of}
 use Rattle.page.specs.Reader.{reading_of}
 use Rattle.score.specs.Scale.{Measured, scales}

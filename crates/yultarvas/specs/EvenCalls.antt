@@ -2,7 +2,7 @@
 -- `at_front` are those of every call, `code_number` and `left_point` those of every code (Calls). Definitions only.
 use Rattle.std.specs.Prelude.{List, ℕ, ℤ, Float, length, take}
 use Rattle.tetra.specs.Tetra.{point_of}
-use Rattle.tetra.specs.declared.Encoded.{Encoded}
+use Rattle.tetra.specs.Encode.{Encoded}
 use Rattle.search.specs.Parity.{even_parities}
 use Rattle.encoder.specs.Encode.{Coding, encode_at_over, encode_over, encode_samples_over}
 use Rattle.page.specs.Reader.{reading_of}

@@ -48,13 +48,7 @@ pub extern "C" fn yultarvas_encode_point(point: &[i32], word: &mut u64) -> u32
     if point.len() < 24 {
         return NO_ROOM;
     }
-    let e = tetra::encode(slices::point_of(point));
-    let number = e.number;
-    if number != 0 {
-        return number;
-    }
-    *word = e.word;
-    0
+    slices::put_word(tetra::encode(slices::point_of(point)), word)
 }
 
 // The section that is outside its bound, where the point is refused with 11: the lowest one, from 1 to 3. Else 0, as for a slice that is too
@@ -66,8 +60,10 @@ pub extern "C" fn yultarvas_outside(point: &[i32]) -> u32
     if point.len() < 24 {
         return 0;
     }
-    let e = tetra::encode(slices::point_of(point));
-    e.section
+    match tetra::encode(slices::point_of(point)) {
+        Ok(_) => 0,
+        Err(reason) => reason.section(),
+    }
 }
 
 // ---- samples to codes

@@ -54,13 +54,7 @@ pub extern "C" fn yultarvas_even_encode_point(point: &[i32], word: &mut u64) -> 
     if point.len() < 24 {
         return NO_ROOM;
     }
-    let e = even::encode_point(slices::point_of(point));
-    let number = e.number;
-    if number != 0 {
-        return number;
-    }
-    *word = e.word;
-    0
+    slices::put_word(even::encode_point(slices::point_of(point)), word)
 }
 
 // ---- samples to codes

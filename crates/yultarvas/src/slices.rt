@@ -3,6 +3,7 @@ ghost use Rattle.std.specs.Prelude.{◌≡◌, ◌++◌, ◌≤◌, length, take
 ghost use Rattle.std.specs.Result.{result_unwrap_or};
 ghost use Rattle.refusal.specs.Refusal.{number_in};
 ghost use Rattle.encoder.specs.Encode.{coded_by};
+ghost use Rattle.tetra.specs.Encode.{encoded_by};
 ghost use Rattle.yultarvas.specs.Calls.{left, at_front, left_point};
 
 use encoder::Code;
@@ -57,6 +58,20 @@ pub(crate) fn put_count(answer: Result<usize, Refusal>, cell: &mut usize) -> u32
             0
         }
         Err(refusal) => refusal.number(),
+    }
+}
+
+// The word of a point into the lent cell, unless the point is refused. Answers the number.
+pub(crate) fn put_word(coded: Result<u64, Refusal>, word: &mut u64) -> u32
+    ensures value { result ≡ (encoded_by coded).number }
+    ensures word_after { word.new ≡ left result (encoded_by coded).word word.old }
+{
+    match coded {
+        Ok(found) => {
+            *word = found;
+            0
+        }
+        Err(reason) => reason.number(),
     }
 }
 

@@ -14,5 +14,5 @@ returns c =
     let w = c.with_even_back in
     let l : length a.samples ≡ 24 = search rules in
     let f : AllFit a.samples = λ k. search (each-held, rules) in
-    of_samples_lem a.samples l f (coded_by w.result.code) (decoded_by w.result.decoded) w.result.encoded w.ensures.decoded_value w.ensures.encoded_value
+    of_samples_lem a.samples l f (coded_by w.result.code) (decoded_by w.result.decoded) _ w.ensures.decoded_value w.ensures.encoded_value
     a.setting (w.ensures.code_value ∙ c.encode_with.ensures)

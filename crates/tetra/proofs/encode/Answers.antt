@@ -1,5 +1,5 @@
 -- `tetra::encode`: the test that fails is the reason why the point has no word, and where all pass it has the one answered. Assumes nothing.
-use Rattle.std.proofs.Common.{rules, arith, ◌≡◌, ap, sym, ◌∙◌, length, pos, w32, slice_index_or}
+use Rattle.std.proofs.Common.{rules, arith, Some, None, Err, ◌≡◌, ap, sym, ◌∙◌, length, pos, w32, slice_index_or}
 use mathlib.Core.Bool.{not}
 use mir.Val.{SFits}
 use Rattle.std.proofs.Math.Facts.{to_z-of_z}
@@ -7,14 +7,15 @@ use Rattle.rank.specs.Coord.{parity_of}
 use Rattle.rank.specs.Section.{bits_of}
 use Rattle.rows.specs.declared.Seated.TheVariants.{At}
 use Rattle.rows.specs.Table.{class_index_of, mixed_index_of}
+use Rattle.refusal.specs.declared.Refusal.TheVariants.{NoCodeword}
 use Rattle.trellis.specs.Trellis.{label_in}
 use Rattle.tetra.specs.Lattice.{trio, section_ranks}
-use Rattle.tetra.specs.Encode.{label_for, parity_at}
+use Rattle.tetra.specs.Encode.{label_for, parity_at, encoded_by}
 use Rattle.tetra.specs.Why.{OfParity, InCode}
 use Rattle.tetra.proofs.Encoding.{label-read, seat-read, middle-read, parity-read, code_read, no_parity, no_code, no_first, no_second}
 use Rattle.tetra.proofs.Encoding.{no_third, classes-lt, no-sum, read-narrow, read_word}
 use Rattle.tetra.proofs.encode.Goals as goal
-use Rattle.tetra.proofs.encode.Goals.{After-one_parity, After-to_trio-t, After-label_of, In-Some, After-class_index, In-At, After-mixed_index}
+use Rattle.tetra.proofs.encode.Goals.{After-one_parity, After-to_trio-t, After-label_of, In_ok-x, After-class_index, In-At, After-mixed_index}
 use Rattle.tetra.proofs.encode.Goals.{In-At-mixed_index, After-class_index-2, In-At-class_index}
 
 -- ---- what is known of the point once it is read that far
@@ -27,9 +28,12 @@ one c n = parity-read c.args.point n c.one_parity.ensures (ap not c.if-not-one_p
 label : (c : After-label_of) → length c.args.point ≡ 24 → c.label_of.result ≡ label_in (bits_of (trio c.args.point))
 label c n = label-read c.args.point n c.to_trio-t.ensures c.bits.ensures c.label_of.ensures
 
-code : (c : In-Some) → length c.args.point ≡ 24 → InCode c.args.point × (c.in-Some.x ≡ label_for c.args.point)
+code : (c : In_ok-x) → length c.args.point ≡ 24 → InCode c.args.point × (c.in_ok-x.x ≡ label_for c.args.point)
 code c n =
-    code_read c.args.point n (label-read c.args.point n c.to_trio-t.ensures c.bits.ensures c.label_of.ensures) c.in-Some.is
+    code_read c.args.point n (label-read c.args.point n c.to_trio-t.ensures c.bits.ensures c.label_of.ensures) found
+  where
+    found : c.label_of.result ≡ Some c.in_ok-x.x
+    found = c.in_ok-x.ensures.ok_part
 
 -- the seats of the three sections
 first : (c : After-class_index) → length c.args.point ≡ 24 → c.class_index.result ≡ class_index_of (section_ranks c.args.point 0)
@@ -48,22 +52,23 @@ returns-then-not-one_parity c =
     let n = long (goal.at.returns-then-not-one_parity c).After-one_parity in
     let f : SFits w32 (slice_index_or y 0 (pos 0)) = search rules in
     let p : c.parity-p.result ≡ parity_at y = c.parity-p.ensures.0 ∙ ap parity_of (to_z-of_z f) in
-    c.refused.ensures ∙ no_parity y n p c.one_parity.ensures (ap not c.if-not-one_parity.true)
+    no_parity y n p c.one_parity.ensures (ap not c.if-not-one_parity.true)
+
+pub returns-in_err-x : goal.returns-in_err-x
+returns-in_err-x c =
+    let y = c.args.point in
+    let m = goal.at.returns-in_err-x c in
+    let n = long m.After-one_parity in
+    let absent : c.label_of.result ≡ None = c.in_err-x.ensures.ok_part in
+    let told : c.from_residual.result ≡ Err NoCodeword = search rules in
+    ap encoded_by told ∙ no_code y n (one m.After-to_trio-t n) (label m.After-label_of n) absent
 
 pub returns-in_default : goal.returns-in_default
 returns-in_default c =
     let y = c.args.point in
     let m = goal.at.returns-in_default c in
     let n = long m.After-one_parity in
-    c.refused-in_default.ensures ∙ no_code y n (one m.After-to_trio-t n) (label m.After-label_of n) c.in_default.is
-
-pub returns-in_default-class_index : goal.returns-in_default-class_index
-returns-in_default-class_index c =
-    let y = c.args.point in
-    let m = goal.at.returns-in_default-class_index c in
-    let n = long m.After-one_parity in
-    c.refused-in_default-class_index.ensures
-    ∙ no_first y n (one m.After-to_trio-t n) (code m.In-Some n).0 (first m.After-class_index n) c.in_default-class_index.is
+    no_first y n (one m.After-to_trio-t n) (code m.In_ok-x n).0 (first m.After-class_index n) c.in_default.is
 
 pub returns-in_default-mixed_index : goal.returns-in_default-mixed_index
 returns-in_default-mixed_index c =
@@ -71,18 +76,16 @@ returns-in_default-mixed_index c =
     let m = goal.at.returns-in_default-mixed_index c in
     let n = long m.After-one_parity in
     let f0 = sym (first m.After-class_index n) ∙ c.in-At.is in
-    c.refused-in_default-mixed_index.ensures
-    ∙ no_second y n (one m.After-to_trio-t n) (code m.In-Some n).0 f0 (second m.After-mixed_index n) c.in_default-mixed_index.is
+    no_second y n (one m.After-to_trio-t n) (code m.In_ok-x n).0 f0 (second m.After-mixed_index n) c.in_default-mixed_index.is
 
-pub returns-in_default-class_index-2 : goal.returns-in_default-class_index-2
-returns-in_default-class_index-2 c =
+pub returns-in_default-class_index : goal.returns-in_default-class_index
+returns-in_default-class_index c =
     let y = c.args.point in
-    let m = goal.at.returns-in_default-class_index-2 c in
+    let m = goal.at.returns-in_default-class_index c in
     let n = long m.After-one_parity in
     let f0 = sym (first m.After-class_index n) ∙ c.in-At.is in
     let f1 = sym (second m.After-mixed_index n) ∙ c.in-At-mixed_index.is in
-    c.refused-in_default-class_index-2.ensures
-    ∙ no_third y n (one m.After-to_trio-t n) (code m.In-Some n).0 f0 f1 (third m.After-class_index-2 n) c.in_default-class_index-2.is
+    no_third y n (one m.After-to_trio-t n) (code m.In_ok-x n).0 f0 f1 (third m.After-class_index-2 n) c.in_default-class_index.is
 
 pub overflow_add-p : goal.overflow_add-p
 overflow_add-p c =
@@ -92,7 +95,7 @@ overflow_add-p c =
     let f0 = sym (first m.After-class_index n) ∙ c.in-At.is in
     let f1 = sym (second m.After-mixed_index n) ∙ c.in-At-mixed_index.is in
     let f2 = sym (third m.After-class_index-2 n) ∙ c.in-At-class_index.is in
-    let small = classes-lt y n (one m.After-to_trio-t n) (code m.In-Some n).0 f0 f1 f2 in
+    let small = classes-lt y n (one m.After-to_trio-t n) (code m.In_ok-x n).0 f0 f1 f2 in
     omega (arith, small.0, c.parity-p.ensures.1)
 
 pub overflow_add-p-2 : goal.overflow_add-p-2
@@ -103,7 +106,7 @@ overflow_add-p-2 c =
     let f0 = sym (first m.After-class_index n) ∙ c.in-At.is in
     let f1 = sym (second m.After-mixed_index n) ∙ c.in-At-mixed_index.is in
     let f2 = sym (third m.After-class_index-2 n) ∙ c.in-At-class_index.is in
-    let small = classes-lt y n (one m.After-to_trio-t n) (code m.In-Some n).0 f0 f1 f2 in
+    let small = classes-lt y n (one m.After-to_trio-t n) (code m.In_ok-x n).0 f0 f1 f2 in
     omega (arith, small.0, small.1, c.parity-p.ensures.1)
 
 pub returns-then-r3-p : goal.returns-then-r3-p
@@ -114,18 +117,17 @@ returns-then-r3-p c =
     let f0 = sym (first m.After-class_index n) ∙ c.in-At.is in
     let f1 = sym (second m.After-mixed_index n) ∙ c.in-At-mixed_index.is in
     let f2 = sym (third m.After-class_index-2 n) ∙ c.in-At-class_index.is in
-    c.refused-then-r3-p.ensures
-    ∙ no-sum y n (one m.After-to_trio-t n) (code m.In-Some n).0 f0 f1 f2 (λ e. omega (arith, c.if-r3-p.true))
+    no-sum y n (one m.After-to_trio-t n) (code m.In_ok-x n).0 f0 f1 f2 (λ e. omega (arith, c.if-r3-p.true))
 
-pub word_by-word-requires : goal.word_by-word-requires
-word_by-word-requires c =
+pub word_by-requires : goal.word_by-requires
+word_by-requires c =
     let y = c.args.point in
-    let m = goal.at.word_by-word-requires c in
+    let m = goal.at.word_by-requires c in
     let n = long m.After-one_parity in
     let f0 = sym (first m.After-class_index n) ∙ c.in-At.is in
     let f1 = sym (second m.After-mixed_index n) ∙ c.in-At-mixed_index.is in
     let f2 = sym (third m.After-class_index-2 n) ∙ c.in-At-class_index.is in
-    let k = code m.In-Some n in
+    let k = code m.In_ok-x n in
     read-narrow y n (one m.After-to_trio-t n) k.0 f0 f1 f2 k.1 (omega (arith, c.if-r3-p.false))
 
 pub returns : goal.returns
@@ -136,6 +138,5 @@ returns c =
     let f0 = sym (first m.After-class_index n) ∙ c.in-At.is in
     let f1 = sym (second m.After-mixed_index n) ∙ c.in-At-mixed_index.is in
     let f2 = sym (third m.After-class_index-2 n) ∙ c.in-At-class_index.is in
-    let k = code m.In-Some n in
-    c.accepted.ensures
-    ∙ read_word y n (one m.After-to_trio-t n) k.0 f0 f1 f2 k.1 (omega (arith, c.if-r3-p.false)) c.word_by-word.ensures
+    let k = code m.In_ok-x n in
+    read_word y n (one m.After-to_trio-t n) k.0 f0 f1 f2 k.1 (omega (arith, c.if-r3-p.false)) c.word_by.ensures

@@ -17,7 +17,7 @@ use Rattle.tetra.specs.Encode.{parity_at, one_parity, label_for, in_code, right_
 use Rattle.tetra.specs.Why.{OfParity, InCode, Inside, Why, has_word, mixed_parity_lem, no_codeword_lem, outside-bound, wrong_sum_lem}
 use Rattle.tetra.specs.Laws.Orders.{uniform-at, at-uniform}
 use Rattle.tetra.specs.Laws.Word.{code-label, label-code}
-use Rattle.tetra.specs.declared.Encoded.{Encoded}
+use Rattle.tetra.specs.Encode.{Encoded}
 
 -- ---- the first n sections are within their bounds: one by one, and together
 pub each_inside : (y : List ℤ) (n : ℕ) → n ≤ 3 → (0 < n → T (in_own_class (section_ranks y 0))) → (1 < n → T (in_middle (section_ranks y 1)))
