@@ -7,8 +7,7 @@ use borrow.Author.Tests.{ltb-true, ltb-false, eqb-true, eqb-false, ne_eqb}
 use lib.Dec.{ltb, eqb}
 use lib.IntN.{ℤ, pos, negsuc}
 use Rattle.rank.specs.Coord.{val_of}
-use Rattle.rank.specs.Answers.{valued_of}
-use Rattle.rank.specs.declared.Valued.{Valued}
+use Rattle.rank.specs.Answers.{Valued, valued_of}
 
 -- no offset above 3 has a member
 pub past_three : (o rho : ℕ) → 4 ≤ o → val_of o rho ≡ pos 0

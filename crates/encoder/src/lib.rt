@@ -62,14 +62,10 @@ fn section(t: [f64; 24], from: usize) -> [f64; 8]
 fn value(o: u32, rho: u32) -> i32
     ensures { result ≡ val_of o rho }
 {
-    let v = rank::val(o, rho);
-    if v.number == 0 {
-        return v.value;
+    match rank::val(o, rho) {
+        Ok(y) => y,
+        Err(_) => { if (o == 0) & (rho == 8) { -16 } else { 0 } }
     }
-    if (o == 0) & (rho == 8) {
-        return -16;
-    }
-    0
 }
 
 // Coordinate j of the section of parity p, byte c and packed row `key`. The definition has an answer for every p, and it is 0 from 4 on; a

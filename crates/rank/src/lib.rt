@@ -1,36 +1,26 @@
 // Coordinates and rank vectors: the members of o + 4Z by rank, and back; class, cost and packing of a section's eight ranks; closed bounds.
 #![tactic(auto)]
 
-ghost use Rattle.std.specs.Prelude.{◌≡◌, true, ◌<◌};
-ghost use Rattle.laws.specs.Words.{lex_le};
+ghost use Rattle.std.specs.Prelude.{◌≡◌, true, ◌*◌, ◌/◌, ◌%◌, ◌^◌, ◌<◌};
 ghost use Rattle.laws.specs.Words.{mod_z};
 ghost use Rattle.rank.specs.Coord.{parity_of, bit_of, val_of};
 ghost use Rattle.rank.specs.Vector.{ranks_below, k_zero, bound_cost, bound_cut, middle_cost, middle_cut};
 ghost use Rattle.rank.specs.Vector as vector;
-ghost use Rattle.rank.specs.Answers.{valued_of, ranked_of, ranked_number, rank_in, lookup_number, lookup_rank, mark_of};
-ghost use Rattle.rank.specs.Answers.{classed_of, costed_of, held_of, packed_of};
+ghost use Rattle.refusal.specs.Refusal.{number_in};
+ghost use Rattle.rank.specs.Answers.{valued_by, valued_of, ranked_by, ranked_of, rank_in, lookup_number, lookup_rank, mark_of};
+ghost use Rattle.rank.specs.Answers.{classed_by, classed_of, costed_by, costed_of, held_by, held_of, packed_of};
+
+use refusal::Refusal;
+use std::array;
 
 // The ranks that rank_of looks at are those below this.
 pub const REACH: u32 = 8;
 
-// The rank mark that says none.
+// The rank mark that says none: a number and no Option, since document 01 gives it, with the weight 961.
 pub const NO_RANK: u32 = 15;
 
 // A packed rank has four bits: cost and contains take the ranks below this.
 const FOUR_BITS: u32 = 16;
-
-#[derive(Clone, Copy)]
-pub struct Valued {
-    pub number: u32,
-    pub value: i32,
-}
-
-#[derive(Clone, Copy)]
-pub enum Ranked {
-    Rank(u32),
-    Nothing,
-    Refused,
-}
 
 // The members of o + 4Z by rank, eight for each o. In bytes: a constant array is made anew wherever it is read.
 const VALUES: [i8; 32] = [
@@ -38,50 +28,33 @@ const VALUES: [i8; 32] = [
     -1, 3, -5, 7, -9, 11, -13, 15,
 ];
 
-// A member as it is kept, as a number.
-fn wide(x: i8) -> i32
-    ensures { result ≡ x }
-{
-    x as i32
-}
-
-fn value_at(o: u32, rho: u32) -> i32
+// The member of o + 4Z at the rank `rho`, for whoever knows that both are in range.
+pub fn value_at(o: u32, rho: u32) -> i32
     requires { (o < 4) × (rho < 8) }
     ensures { result ≡ val_of o rho }
 {
-    wide(VALUES[(o * 8 + rho) as usize])
+    i32::from(VALUES[(o * 8 + rho) as usize])
 }
 
-// The member of o + 4Z at the rank `rho`, outward from zero, positive first.
-pub fn val(o: u32, rho: u32) -> Valued
-    ensures { result ≡ valued_of o rho }
+// The member of o + 4Z at the rank `rho`, outward from zero, positive first; refused where there is none.
+pub fn val(o: u32, rho: u32) -> Result<i32, Refusal>
+    ensures { valued_by result ≡ valued_of o rho }
 {
     if (o < 4) & (rho < 8) {
-        Valued {
-            number: 0,
-            value: value_at(o, rho),
-        }
+        Ok(value_at(o, rho))
     } else {
-        Valued {
-            number: refusal::OUT_OF_RANGE,
-            value: 0,
-        }
+        Err(Refusal::OutOfRange)
     }
 }
 
-// The rank of `y` in o + 4Z; nothing where it is not in it or stands past the reach.
-pub fn rank_of(o: u32, y: i32) -> Ranked
-    ensures { (result ≡ ranked_of o y) × (ranked_number result ≡ lookup_number o) × (rank_in result ≡ lookup_rank o y) }
+// The rank of `y` in o + 4Z; none where it is not in it or stands past the reach.
+pub fn rank_of(o: u32, y: i32) -> Result<Option<u32>, Refusal>
+    ensures { (ranked_by result ≡ ranked_of o y) × (number_in result ≡ lookup_number o) × (rank_in (ranked_by result) ≡ lookup_rank o y) }
 {
     if 4 <= o {
-        return Ranked::Refused;
+        return Err(Refusal::OutOfRange);
     }
-    for rho in 0..REACH {
-        if value_at(o, rho) == y {
-            return Ranked::Rank(rho);
-        }
-    }
-    Ranked::Nothing
+    Ok((0..REACH).find(|rho| value_at(o, *rho) == y))
 }
 
 // The remainder by 4, from the floor: o = p + 2c of a coordinate.
@@ -109,41 +82,14 @@ pub fn bit(y: i32) -> u32
 pub fn mark(y: i32) -> u32
     ensures { (result ≡ mark_of y) × (result < 16) }
 {
-    match rank_of(residue(y), y) {
-        Ranked::Rank(rho) => rho,
-        Ranked::Nothing => NO_RANK,
-        Ranked::Refused => NO_RANK,
-    }
-}
-
-#[derive(Clone, Copy)]
-pub struct Classed {
-    pub number: u32,
-    pub class: u32,
-}
-
-#[derive(Clone, Copy)]
-pub struct Costed {
-    pub number: u32,
-    pub cost: u32,
-}
-
-#[derive(Clone, Copy)]
-pub struct Held {
-    pub number: u32,
-    pub held: bool,
+    rank_of(residue(y), y).ok().flatten().unwrap_or(NO_RANK)
 }
 
 // Whether all ranks are below `b`.
 pub fn all_below(rho: [u32; 8], b: u32) -> bool
     ensures { result ≡ ranks_below b rho }
 {
-    for j in 0..8usize {
-        if b <= rho[j] {
-            return false;
-        }
-    }
-    true
+    rho.iter().all(|r| *r < b)
 }
 
 // The sum of |k| read under o = 0: the member of 4Z at the rank r has |k| = (r + 1) / 2.
@@ -151,27 +97,17 @@ fn sum_of_k(rho: [u32; 8]) -> u32
     requires { ranks_below 8 rho ≡ true }
     ensures { result ≡ k_zero rho }
 {
-    let mut sum: u32 = 0;
-    for j in 0..8usize {
-        sum = sum + (rho[j] + 1) / 2;
-    }
-    sum
+    rho.iter().map(|r| (*r + 1) / 2).sum()
 }
 
 // The parity of the sum of k over a section, from its ranks alone.
-pub fn rank_class(rho: [u32; 8]) -> Classed
-    ensures { result ≡ classed_of rho }
+pub fn rank_class(rho: [u32; 8]) -> Result<u32, Refusal>
+    ensures { classed_by result ≡ classed_of rho }
 {
     if all_below(rho, 8) {
-        Classed {
-            number: 0,
-            class: sum_of_k(rho) % 2,
-        }
+        Ok(sum_of_k(rho) % 2)
     } else {
-        Classed {
-            number: refusal::OUT_OF_RANGE,
-            class: 0,
-        }
+        Err(Refusal::OutOfRange)
     }
 }
 
@@ -180,28 +116,17 @@ fn weigh(rho: [u32; 8]) -> u32
     requires { ranks_below 16 rho ≡ true }
     ensures { result ≡ vector.cost rho }
 {
-    let mut sum: u32 = 0;
-    for j in 0..8usize {
-        let m = 2 * rho[j] + 1;
-        sum = sum + m * m;
-    }
-    sum
+    rho.iter().map(|r| (2 * *r + 1) * (2 * *r + 1)).sum()
 }
 
 // What the rows are ordered by.
-pub fn cost(rho: [u32; 8]) -> Costed
-    ensures { result ≡ costed_of rho }
+pub fn cost(rho: [u32; 8]) -> Result<u32, Refusal>
+    ensures { costed_by result ≡ costed_of rho }
 {
     if all_below(rho, FOUR_BITS) {
-        Costed {
-            number: 0,
-            cost: weigh(rho),
-        }
+        Ok(weigh(rho))
     } else {
-        Costed {
-            number: refusal::OUT_OF_RANGE,
-            cost: 0,
-        }
+        Err(Refusal::OutOfRange)
     }
 }
 
@@ -209,45 +134,26 @@ pub fn cost(rho: [u32; 8]) -> Costed
 pub fn pack(rho: [u32; 8]) -> u32
     ensures { result ≡ packed_of rho }
 {
-    let mut row: u32 = 0;
-    for j in 0..8u32 {
-        row = row | ((rho[j as usize] & 15) << (4 * j));
-    }
-    row
+    rho.iter().rev().fold(0, |row, r| (row << 4) | (r & 15))
+}
+
+// Rank `j` of a packed row.
+fn rank_at(row: u32, j: usize) -> u32
+    requires { j < 8 }
+    ensures { result ≡ row / 2 ^ (4 * j) % 16 }
+{
+    (row >> (4 * j)) & 15
 }
 
 // Undoes `pack`.
 pub fn unpack(row: u32) -> [u32; 8]
     ensures { result ≡ vector.unpack 8 row }
 {
-    let mut rho = [0u32; 8];
-    for j in 0..8u32 {
-        rho[j as usize] = (row >> (4 * j)) & 15;
-    }
-    rho
+    array::from_fn(|j| rank_at(row, j))
 }
 
-// Whether `a` is at most `b`: rank 0 is compared first, it is the most significant.
-fn lex_le(a: [u32; 8], b: [u32; 8]) -> bool
-    ensures { result ≡ lex_le a b }
-{
-    let mut left: usize = 8;
-    while 0 < left {
-        let j = 8 - left;
-        let x = a[j];
-        let y = b[j];
-        if x < y {
-            return true;
-        }
-        if y < x {
-            return false;
-        }
-        left -= 1;
-    }
-    true
-}
-
-// All rank vectors that cost less than `cost`, and those that cost as much up to `cut`, the cut included.
+// All rank vectors that cost less than `cost`, and those that cost as much up to `cut`, the cut included. search::Closed is this with its cut
+// packed, a type of its own for speed: the encoder's inner loops compare one number.
 #[derive(Clone, Copy)]
 pub struct Bound {
     pub cost: u32,
@@ -259,32 +165,19 @@ impl Bound {
         requires { ranks_below 16 rho ≡ true }
         ensures { result ≡ vector.within self.cost self.cut rho }
     {
-        let c = weigh(rho);
-        let top = self.cost;
-        let cut = self.cut;
-        if c < top {
-            return true;
-        }
-        if top < c {
-            return false;
-        }
-        lex_le(rho, cut)
+        // Cost decides first, and then the ranks, rank 0 the most significant.
+        let Bound { cost, cut } = self;
+        (weigh(rho), rho) <= (cost, cut)
     }
 
     // Says nothing of the class: a first or third section also needs its own.
-    pub fn contains(self, rho: [u32; 8]) -> Held
-        ensures { result ≡ held_of self.cost self.cut rho }
+    pub fn contains(self, rho: [u32; 8]) -> Result<bool, Refusal>
+        ensures { held_by result ≡ held_of self.cost self.cut rho }
     {
         if all_below(rho, FOUR_BITS) {
-            Held {
-                number: 0,
-                held: self.holds(rho),
-            }
+            Ok(self.holds(rho))
         } else {
-            Held {
-                number: refusal::OUT_OF_RANGE,
-                held: false,
-            }
+            Err(Refusal::OutOfRange)
         }
     }
 }

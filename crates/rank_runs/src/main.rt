@@ -1,8 +1,9 @@
 // Prints what the functions of rank and rows answer on document 01's examples and at the edges of what they take.
 #![tactic(auto)]
 
-use rank::{Bound, Ranked};
-use rows::Seated;
+use rank::Bound;
+use refusal::Refusal;
+use rows::Seat;
 use std::io;
 
 fn text(rt: &impl Print, t: &str) -> io::Result<()> {
@@ -40,12 +41,20 @@ fn ranks(rt: &impl Print, rho: [u32; 8]) -> io::Result<()> {
     part(rt, " ", rho[7])
 }
 
+// The number of an answer: 0, or that of the refusal.
+fn number<T>(answer: &Result<T, Refusal>) -> u32 {
+    match answer {
+        Ok(_) => 0,
+        Err(reason) => reason.number(),
+    }
+}
+
 fn show_val(rt: &impl Print, o: u32, rho: u32) -> io::Result<()> {
     part(rt, "val ", o)?;
     part(rt, " ", rho)?;
     let v = rank::val(o, rho);
-    part(rt, ": number ", v.number)?;
-    signed_part(rt, " value ", v.value)?;
+    part(rt, ": number ", number(&v))?;
+    signed_part(rt, " value ", v.unwrap_or(0))?;
     text(rt, "\n")
 }
 
@@ -53,9 +62,9 @@ fn show_rank(rt: &impl Print, o: u32, y: i32) -> io::Result<()> {
     part(rt, "rank_of ", o)?;
     signed_part(rt, " ", y)?;
     match rank::rank_of(o, y) {
-        Ranked::Rank(rho) => part(rt, ": rank ", rho)?,
-        Ranked::Nothing => text(rt, ": none")?,
-        Ranked::Refused => text(rt, ": refused 7")?,
+        Ok(Some(rho)) => part(rt, ": rank ", rho)?,
+        Ok(None) => text(rt, ": none")?,
+        Err(reason) => part(rt, ": refused ", reason.number())?,
     }
     text(rt, "\n")
 }
@@ -64,8 +73,8 @@ fn show_class(rt: &impl Print, rho: [u32; 8]) -> io::Result<()> {
     text(rt, "rank_class")?;
     ranks(rt, rho)?;
     let a = rank::rank_class(rho);
-    part(rt, ": number ", a.number)?;
-    part(rt, " class ", a.class)?;
+    part(rt, ": number ", number(&a))?;
+    part(rt, " class ", a.unwrap_or(0))?;
     text(rt, "\n")
 }
 
@@ -73,8 +82,8 @@ fn show_cost(rt: &impl Print, rho: [u32; 8]) -> io::Result<()> {
     text(rt, "cost")?;
     ranks(rt, rho)?;
     let a = rank::cost(rho);
-    part(rt, ": number ", a.number)?;
-    part(rt, " cost ", a.cost)?;
+    part(rt, ": number ", number(&a))?;
+    part(rt, " cost ", a.unwrap_or(0))?;
     text(rt, "\n")
 }
 
@@ -82,8 +91,15 @@ fn show_held(rt: &impl Print, name: &str, b: Bound, rho: [u32; 8]) -> io::Result
     text(rt, name)?;
     ranks(rt, rho)?;
     let a = b.contains(rho);
-    part(rt, ": number ", a.number)?;
-    text(rt, if a.held { " yes\n" } else { " no\n" })
+    part(rt, ": number ", number(&a))?;
+    text(
+        rt,
+        if a.unwrap_or(false) {
+            " yes\n"
+        } else {
+            " no\n"
+        },
+    )
 }
 
 fn show_coordinate(rt: &impl Print, y: i32) -> io::Result<()> {
@@ -106,13 +122,13 @@ fn show_pack(rt: &impl Print, rho: [u32; 8]) -> io::Result<()> {
     text(rt, "\n")
 }
 
-fn seat(rt: &impl Print, s: Seated) -> io::Result<()> {
+fn seat(rt: &impl Print, s: Option<Seat>) -> io::Result<()> {
     match s {
-        Seated::At { class, index } => {
+        Some(Seat { class, index }) => {
             part(rt, ": class ", class)?;
             part(rt, " index ", index as u32)?;
         }
-        Seated::Nothing => text(rt, ": none")?,
+        None => text(rt, ": none")?,
     }
     text(rt, "\n")
 }
@@ -139,7 +155,7 @@ fn show_row(rt: &impl Print, i: u32) -> io::Result<()> {
 fn show_find(rt: &impl Print, w: u32) -> io::Result<()> {
     text(rt, "find ")?;
     hex(rt, w)?;
-    part(rt, ": ", rows::find(w))?;
+    part(rt, ": ", rows::find(w).unwrap_or(rows::ROWS))?;
     text(rt, "\n")
 }
 

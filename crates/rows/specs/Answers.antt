@@ -1,22 +1,21 @@
 -- What `class_index` and `mixed_index` answer, said without a search: which row a vector is, and that no second answer fits.
 -- Assumes nothing.
-use Rattle.std.specs.Prelude.{◌≡◌, refl, List, [], ◌∷◌, ℕ, ◌+◌, ◌*◌, ◌/◌, ◌%◌, ◌<◌, T, length}
+use Rattle.std.specs.Prelude.{◌≡◌, refl, List, [], ◌∷◌, ℕ, ◌+◌, ◌*◌, ◌/◌, ◌%◌, ◌<◌, T, length, Option, None}
 use Rattle.std.proofs.Common.{◌∙◌, ap, ap₂, sym, subst, arith}
 use Rattle.std.proofs.Math.Decide.{dec_lt}
 use Rattle.rank.specs.Vector.{class, in_class, in_middle}
-use Rattle.rows.specs.Table.{row_ranks, IsRow, seat_at, class_index_of}
+use Rattle.rows.specs.Table.{row_ranks, IsRow, At, seat_at, class_index_of}
 use Rattle.rows.specs.Table.{middle_rows, middle_class, middle_row, IsMiddleRow, middle_seat, mixed_index_of, seated_number, values_of}
 use Rattle.rows.specs.Laws.Rule.{row-class, row_in}
 use Rattle.rows.specs.Laws.Places.{number-class, number_index, number-back, position_of-row, position_none, row-or-none, is_row}
 use Rattle.rows.specs.Laws.Middle.{Names, named, used_small, used_row, middle-lt, middle_row-class}
 use Rattle.rows.specs.Laws.Middle.{middle_row_in, middle-at, middle-or-none}
-use Rattle.rows.specs.Laws.Seats.{number_zero, same_values, not_both, seat-row, seat-none, middle_used, middle_unused}
-use Rattle.rows.specs.declared.Seated.{Seated}
-use Rattle.rows.specs.declared.Seated.TheVariants.{At, Nothing}
+use Rattle.rows.specs.Laws.Seats.{number_zero, same_values, not_both, seat-same, seat-row, seat-none, middle_used, middle_unused}
+use Rattle.rows.specs.declared.Seat.{Seat}
 
 -- ---- class_index
 -- the answer for v: the class and the index of the row that v is, and no value where v is no row
-pub record ClassIndex (v : List ℕ) (r : Seated) : Type 0 where
+pub record ClassIndex (v : List ℕ) (r : Option Seat) : Type 0 where
   pub number : seated_number r ≡ 0
   pub row : (c i : ℕ) → c < 2 → i < 2048 → row_ranks (2048 * c + i) ≡ v → values_of r ≡ c ∷ i ∷ []
   pub none : (IsRow v → ⊥) → values_of r ≡ []
@@ -27,14 +26,14 @@ unfolding class_index_of
 class_index-row c i hc hi =
     let p : 2048 * c + i < 4096 = omega arith in
     ap seat_at (position_of-row (2048 * c + i) p) ∙ seat-row (2048 * c + i) p
-    ∙ ap₂ {C = Seated} (λ a b. At a b) (number-class c i hi) (number_index c i hi)
+    ∙ ap₂ {C = Option Seat} (λ a b. At a b) (number-class c i hi) (number_index c i hi)
 
 -- the same by the row's number
 class_index-at : (v : List ℕ) (p : ℕ) → p < 4096 → row_ranks p ≡ v → class_index_of v ≡ At (p / 2048) (p % 2048)
 class_index-at v p h q =
     ap class_index_of (sym (ap row_ranks (number-back p) ∙ q)) ∙ class_index-row (p / 2048) (p % 2048) (omega arith) (omega arith)
 
-class_index-none : (v : List ℕ) → length v ≡ 8 → (IsRow v → ⊥) → class_index_of v ≡ Nothing
+class_index-none : (v : List ℕ) → length v ≡ 8 → (IsRow v → ⊥) → class_index_of v ≡ None
 unfolding class_index_of
 class_index-none v e n = ap seat_at (position_none v e n) ∙ seat-none 4096 (omega arith)
 
@@ -46,7 +45,7 @@ class_index v e = record {
 }
 
 -- no second answer fits
-pub class_index_only : (v : List ℕ) → length v ≡ 8 → (r : Seated) → ClassIndex v r → r ≡ class_index_of v
+pub class_index_only : (v : List ℕ) → length v ≡ 8 → (r : Option Seat) → ClassIndex v r → r ≡ class_index_of v
 class_index_only v e r a = same_values r (class_index_of v) (go (row-or-none v e))
   where
     go : Dec (IsRow v) → values_of r ≡ values_of (class_index_of v)
@@ -62,7 +61,7 @@ class_index_in v e t =
     let r = is_row (class v) v e refl t in
     (r.0, r.1, r.2, ap class_index_of (sym r.2) ∙ class_index-row (class v) r.0 (omega arith) r.1)
 
-pub class_index_out : (v : List ℕ) → length v ≡ 8 → (T (in_class (class v) v) → ⊥) → class_index_of v ≡ Nothing
+pub class_index_out : (v : List ℕ) → length v ≡ 8 → (T (in_class (class v) v) → ⊥) → class_index_of v ≡ None
 class_index_out v e n =
     class_index-none v e (λ r. n (subst (λ (u : List ℕ). T (in_class (class u) u)) r.2 (row_in r.0 r.1)))
 
@@ -74,15 +73,14 @@ class_index-back v e c i a = go (row-or-none v e)
     go : Dec (IsRow v) → (c < 2) × (i < 2048) × (row_ranks (2048 * c + i) ≡ v)
     go (yes (p, h, q)) =
         let r : At (p / 2048) (p % 2048) ≡ At c i = sym (class_index-at v p h q) ∙ a in
-        let x : p / 2048 ≡ c = cc in
-        let y : p % 2048 ≡ i = cc in
-        let z : 2048 * c + i ≡ p = omega arith in
-        (omega arith, omega arith, ap row_ranks z ∙ q)
+        let (x, y) = seat-same r in
+        let z : 2048 * c + i ≡ p = omega (arith, x, y) in
+        (omega (arith, x), omega (arith, y), ap row_ranks z ∙ q)
     go (no n) = absurd (not_both c i (sym (class_index-none v e n) ∙ a))
 
 -- ---- mixed_index
 -- the answer for v: the class and the middle's index of the row that v is, and no value where v is none of the middle's rows
-pub record MixedIndex (v : List ℕ) (r : Seated) : Type 0 where
+pub record MixedIndex (v : List ℕ) (r : Option Seat) : Type 0 where
   pub number : seated_number r ≡ 0
   pub row : (i : ℕ) → i < 2048 → row_ranks (middle_row i) ≡ v → values_of r ≡ middle_class i ∷ i ∷ []
   pub none : (IsMiddleRow v → ⊥) → values_of r ≡ []
@@ -97,17 +95,17 @@ mixed_index-row i h = let n = named i h in go n.0 n.1 n.2
         ap (λ (p : ℕ). mixed_index_of (row_ranks p)) n.row
         ∙ ap middle_seat (class_index-row c j n.two (used_small c j n.used))
         ∙ middle_used c j n.used
-        ∙ ap₂ {C = Seated} (λ a b. At a b) (sym n.class_is) (sym n.index)
+        ∙ ap₂ {C = Option Seat} (λ a b. At a b) (sym n.class_is) (sym n.index)
 
-mixed_index-none : (v : List ℕ) → length v ≡ 8 → (IsMiddleRow v → ⊥) → mixed_index_of v ≡ Nothing
+mixed_index-none : (v : List ℕ) → length v ≡ 8 → (IsMiddleRow v → ⊥) → mixed_index_of v ≡ None
 unfolding mixed_index_of middle_seat
 mixed_index-none v e n = go (row-or-none v e)
   where
-    unused : (p : ℕ) → p < 4096 → row_ranks p ≡ v → Dec (p % 2048 < middle_rows (p / 2048)) → mixed_index_of v ≡ Nothing
+    unused : (p : ℕ) → p < 4096 → row_ranks p ≡ v → Dec (p % 2048 < middle_rows (p / 2048)) → mixed_index_of v ≡ None
     unused p h q (yes u) = absurd (n (used_row v p h q u))
     unused p h q (no u) = ap middle_seat (class_index-at v p h q) ∙ middle_unused (p / 2048) (p % 2048) (omega arith)
 
-    go : Dec (IsRow v) → mixed_index_of v ≡ Nothing
+    go : Dec (IsRow v) → mixed_index_of v ≡ None
     go (yes (p, h, q)) = unused p h q (dec_lt (p % 2048) (middle_rows (p / 2048)))
     go (no k) = ap middle_seat (class_index-none v e k)
 
@@ -119,7 +117,7 @@ mixed_index v e = record {
 }
 
 -- no second answer fits
-pub mixed_index_only : (v : List ℕ) → length v ≡ 8 → (r : Seated) → MixedIndex v r → r ≡ mixed_index_of v
+pub mixed_index_only : (v : List ℕ) → length v ≡ 8 → (r : Option Seat) → MixedIndex v r → r ≡ mixed_index_of v
 mixed_index_only v e r a = same_values r (mixed_index_of v) (go (middle-or-none v e))
   where
     go : Dec (IsMiddleRow v) → values_of r ≡ values_of (mixed_index_of v)
@@ -134,7 +132,7 @@ mixed_index_in v e t =
     let k = sym (middle_row-class i h) ∙ sym (row-class (middle_row i) (middle-lt i h)) ∙ ap class q in
     (i, h, q, ap mixed_index_of (sym q) ∙ mixed_index-row i h ∙ ap (λ (c : ℕ). At c i) k)
 
-pub mixed_index_out : (v : List ℕ) → length v ≡ 8 → (T (in_middle v) → ⊥) → mixed_index_of v ≡ Nothing
+pub mixed_index_out : (v : List ℕ) → length v ≡ 8 → (T (in_middle v) → ⊥) → mixed_index_of v ≡ None
 mixed_index_out v e n =
     mixed_index-none v e (λ r. n (subst (λ (u : List ℕ). T (in_middle u)) r.2 (middle_row_in r.0 r.1)))
 
@@ -146,7 +144,6 @@ mixed_index-back v e c i a = go (middle-or-none v e)
     go : Dec (IsMiddleRow v) → (i < 2048) × (middle_class i ≡ c) × (row_ranks (middle_row i) ≡ v)
     go (yes (j, h, q)) =
         let r : At (middle_class j) j ≡ At c i = sym (mixed_index-row j h) ∙ ap mixed_index_of q ∙ a in
-        let x : middle_class j ≡ c = cc in
-        let y : j ≡ i = cc in
-        (omega arith, ap middle_class (sym y) ∙ x, ap (λ (n : ℕ). row_ranks (middle_row n)) (sym y) ∙ q)
+        let (x, y) = seat-same r in
+        (omega (arith, y), ap middle_class (sym y) ∙ x, ap (λ (n : ℕ). row_ranks (middle_row n)) (sym y) ∙ q)
     go (no n) = absurd (not_both c i (sym (mixed_index-none v e n) ∙ a))

@@ -2,7 +2,7 @@
 use mathlib.Core.Path.{◌≡◌, refl, ap, ap₂, sym, subst, ◌∙◌}
 use mathlib.Core.Bool.{Bool, true, false, not}
 use mathlib.Core.List.{List}
-use Prim.Native.Nat.{ℕ, ◌+◌, ◌*◌, ◌%◌, ◌<◌, ◌≤◌}
+use Prim.Native.Nat.{ℕ, ◌+◌, ◌*◌, ◌%◌, ◌<◌}
 use native.Mathlib.Omega.{arith}
 use lib.Dec.{T}
 use lib.IntN.{ℤ, pos}
@@ -18,13 +18,12 @@ use Rattle.rank.specs.Section.{uniform, bits_of, ranks_of, k_sum}
 use Rattle.rank.specs.Answers.{mark_of, marks_of}
 use Rattle.rank.specs.Laws.Lookup.{marks_are, marks-near}
 use Rattle.rank.specs.Laws.Vector.{class-ranks}
-use Rattle.rows.specs.Table.{class_index_of, middle_seat, mixed_index_of, middle_row}
+use Rattle.rows.specs.Table.{At, class_index_of, middle_seat, mixed_index_of, middle_row}
 use Rattle.rows.specs.Laws.Rule.{row_in, row-class}
 use Rattle.rows.specs.Laws.Places.{number-class}
 use Rattle.rows.specs.Laws.Middle.{middle_row_in, middle-lt, middle_row-class}
 use Rattle.rows.specs.Answers.{class_index_in, class_index_out, class_index-back, mixed_index_in, mixed_index-back}
-use Rattle.rows.specs.declared.Seated.{Seated}
-use Rattle.rows.specs.declared.Seated.TheVariants.{At, Nothing}
+use Rattle.rows.specs.declared.Seat.{Seat}
 use Rattle.std.specs.Prelude.{Option, Some, None}
 use Rattle.trellis.specs.Trellis.{label_in}
 use Rattle.trellis.specs.Laws.Back.{label_some, label_absent}
@@ -69,7 +68,7 @@ not_not : (b : Bool) {c : Bool} → not b ≡ c → b ≡ not c
 not_not true e = ap not e
 not_not false e = ap not e
 
-not_both : {s : Seated} {c i : ℕ} → s ≡ Nothing → s ≡ At c i → ⊥
+not_both : {s : Option Seat} {c i : ℕ} → s ≡ None → s ≡ At c i → ⊥
 not_both p q = let z : ◌≡◌ {A = ℕ} 0 1 = cc in omega arith
 
 -- ---- a point of 24 coordinates, and what is read of it: its coordinates t in trio order
@@ -79,13 +78,13 @@ module _ (y : List ℤ) (size : length y ≡ 24) where
     label-read ec er = er ∙ ap label_in (ec ∙ ap bits_of et)
 
     -- the seat of section s
-    pub seat-read : (s : ℕ) → s < 3 → {m : List ℕ} {r : Seated} → m ≡ marks_of (take 8 (drop (8 * s) t)) → r ≡ class_index_of m
+    pub seat-read : (s : ℕ) → s < 3 → {m : List ℕ} {r : Option Seat} → m ≡ marks_of (take 8 (drop (8 * s) t)) → r ≡ class_index_of m
         → r ≡ class_index_of (section_ranks y s)
     seat-read s h em er =
         er ∙ ap class_index_of (em ∙ ap (λ (l : List ℤ). marks_of (take 8 (drop (8 * s) l))) et)
         ∙ marks-seat (section y s) (section_size y s h)
 
-    pub middle-read : {m : List ℕ} {r : Seated} → m ≡ marks_of (take 8 (drop (8 * 1) t)) → r ≡ mixed_index_of m
+    pub middle-read : {m : List ℕ} {r : Option Seat} → m ≡ marks_of (take 8 (drop (8 * 1) t)) → r ≡ mixed_index_of m
         → r ≡ mixed_index_of (section_ranks y 1)
     unfolding mixed_index_of
     middle-read em er = er ∙ ap middle_seat (seat-read 1 (omega arith) em refl)
@@ -114,7 +113,7 @@ module _ (y : List ℤ) (size : length y ≡ 24) where
         sym (answered y size (no_codeword_lem p o (λ c. omega (arith, code-label (bits_of (trio y)) c))))
 
     module _ (c : InCode y) where
-      pub no_first : {r : Seated} → r ≡ class_index_of (section_ranks y 0) → r ≡ Nothing → refused_with outside 1 ≡ encode_of y
+      pub no_first : {r : Option Seat} → r ≡ class_index_of (section_ranks y 0) → r ≡ None → refused_with outside 1 ≡ encode_of y
       unfolding in_bound
       no_first e q =
           sym (answered y size
@@ -125,7 +124,7 @@ module _ (y : List ℤ) (size : length y ≡ 24) where
         first : T (in_own_class (section_ranks y 0)) × (class (section_ranks y 0) ≡ r)
         first = own_seat (section_ranks y 0) (section-length y 0 (omega arith)) s0
 
-        pub no_second : {s : Seated} → s ≡ mixed_index_of (section_ranks y 1) → s ≡ Nothing → refused_with outside 2 ≡ encode_of y
+        pub no_second : {s : Option Seat} → s ≡ mixed_index_of (section_ranks y 1) → s ≡ None → refused_with outside 2 ≡ encode_of y
         unfolding in_bound
         no_second e q =
             sym (answered y size
@@ -137,7 +136,7 @@ module _ (y : List ℤ) (size : length y ≡ 24) where
           second : T (in_middle (section_ranks y 1)) × (class (section_ranks y 1) ≡ d)
           second = middle_seat_lem (section_ranks y 1) (section-length y 1 (omega arith)) s1
 
-          pub no_third : {s : Seated} → s ≡ class_index_of (section_ranks y 2) → s ≡ Nothing → refused_with outside 3 ≡ encode_of y
+          pub no_third : {s : Option Seat} → s ≡ class_index_of (section_ranks y 2) → s ≡ None → refused_with outside 3 ≡ encode_of y
           unfolding in_bound
           no_third e q =
               sym (answered y size

@@ -1,5 +1,5 @@
 -- The word of a point, or why it has none, as `encode` answers it. Demand2 shows that no other answer fits. Assumes nothing.
-use Rattle.std.specs.Prelude.{Bool, cond, List, ℕ, ltb, eqb, ℤ, pos, get_or, Result, Ok, Err}
+use Rattle.std.specs.Prelude.{Bool, cond, List, ℕ, ltb, eqb, ℤ, pos, get_or, Result, Ok, Err, Option, Some, None}
 use Rattle.laws.specs.Words.{mod_z}
 use Rattle.refusal.specs.Refusal.{mixed_parity, no_codeword, outside, wrong_sum, number_of, section_of}
 use Rattle.word.specs.Word.{word_of}
@@ -7,8 +7,7 @@ use Rattle.word.specs.declared.Fields.{Fields}
 use Rattle.rank.specs.Coord.{parity_of}
 use Rattle.rank.specs.Section.{uniform, bits_of, k_sum}
 use Rattle.rows.specs.Table.{class_index_of, mixed_index_of}
-use Rattle.rows.specs.declared.Seated.{Seated}
-use Rattle.rows.specs.declared.Seated.TheVariants.{At, Nothing}
+use Rattle.rows.specs.declared.Seat.{Seat}
 use Rattle.trellis.specs.Trellis.{label_of, s8_of, b1_of, b2_of, b3_of}
 use Rattle.tetra.specs.Lattice.{trio, section_ranks, in_bound}
 use Rattle.refusal.specs.declared.Refusal.{Refusal}
@@ -37,13 +36,13 @@ fields_by p x r i1 i2 i3 =
     record { p = p; r = r; s8 = s8_of x; b1 = b1_of x; i1 = i1; b2 = b2_of x; i2 = i2; b3 = b3_of x; i3 = i3; gain = 0 }
 
 -- the class and the index of an answer
-abbrev pub seat_class : Seated → ℕ
-seat_class (At c i) = c
-seat_class Nothing = 0
+abbrev pub seat_class : Option Seat → ℕ
+seat_class (Some s) = s.class
+seat_class None = 0
 
-abbrev pub seat_index : Seated → ℕ
-seat_index (At c i) = i
-seat_index Nothing = 0
+abbrev pub seat_index : Option Seat → ℕ
+seat_index (Some s) = s.index
+seat_index None = 0
 
 unfoldable pub fields_for : List ℤ → Fields
 fields_for y =

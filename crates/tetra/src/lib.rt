@@ -27,15 +27,6 @@ pub struct Bytes {
 }
 
 // ---- from a word to its point
-// The member of o + 4Z at the rank `rho`.
-fn value(o: u32, rho: u32) -> i32
-    requires { (o < 4) × (rho < 8) }
-    ensures { result ≡ val_of o rho }
-{
-    let v = rank::val(o, rho);
-    v.value
-}
-
 // The eight coordinates of parity `p`, of the bits of `c`, bit 0 first, and of the ranks `rho`.
 fn section_of(p: u32, c: u32, rho: [u32; 8]) -> [i32; 8]
     requires { (p < 2) × T (ranks_below 8 rho) }
@@ -43,7 +34,7 @@ fn section_of(p: u32, c: u32, rho: [u32; 8]) -> [i32; 8]
 {
     let mut out = [0i32; 8];
     for j in 0..8u32 {
-        out[j as usize] = value(p + 2 * ((c >> j) & 1), rho[j as usize]);
+        out[j as usize] = rank::value_at(p + 2 * ((c >> j) & 1), rho[j as usize]);
     }
     out
 }
@@ -233,31 +224,19 @@ pub fn encode(point: [i32; 24]) -> Result<u64, Refusal>
     }
     let t = to_trio(point);
     let x = trellis::label_of(bits(t)).ok_or(Refusal::NoCodeword)?;
-    let rows::Seated::At {
-        class: r,
-        index: i1,
-    } = rows::class_index(marks(t, 0))
-    else {
+    let Some(first) = rows::class_index(marks(t, 0)) else {
         return Err(Refusal::Outside { section: 1 });
     };
-    let rows::Seated::At {
-        class: d,
-        index: i2,
-    } = rows::mixed_index(marks(t, 1))
-    else {
+    let Some(middle) = rows::mixed_index(marks(t, 1)) else {
         return Err(Refusal::Outside { section: 2 });
     };
-    let rows::Seated::At {
-        class: r3,
-        index: i3,
-    } = rows::class_index(marks(t, 2))
-    else {
+    let Some(last) = rows::class_index(marks(t, 2)) else {
         return Err(Refusal::Outside { section: 3 });
     };
-    if r3 != (p + r + d) % 2 {
+    if last.class != (p + first.class + middle.class) % 2 {
         return Err(Refusal::WrongSum);
     }
-    Ok(word_by(p, x, r, i1, i2, i3))
+    Ok(word_by(p, x, first.class, first.index, middle.index, last.index))
 }
 
 // ---- a block of a longer list

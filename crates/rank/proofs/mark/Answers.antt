@@ -1,18 +1,21 @@
 -- `rank::mark`: what the lookup in y's own o + 4Z answers, as a mark. Assumes nothing.
-use mathlib.Core.Path.{◌≡◌, refl, sym, ap, ap₂, subst, ◌∙◌}
+use mathlib.Core.Path.{◌≡◌, refl, ap, ap₂, ◌∙◌}
 use mathlib.Core.Bool.{Bool, true, false, cond}
-use Prim.Native.Nat.{ℕ, ◌<◌}
+use Prim.Native.Nat.{ℕ}
 use borrow.Author.Tests.{lt-ltb, eq-eqb}
 use lib.Dec.{ltb}
 use lib.IntN.{ℤ}
 use mir.Facts.{to_z-of_z}
+use Rattle.std.proofs.Common.{rules, arith}
+use Rattle.std.specs.Prelude.{Option, Some, None, Result, Ok, Err}
+use Rattle.std.specs.Option.{unwrap_or, option_flatten}
+use Rattle.std.specs.Result.{result_ok}
+use Rattle.refusal.specs.declared.Refusal.{Refusal}
 use Rattle.laws.specs.Words.{mod_z}
 use Rattle.laws.specs.Laws.Whole.{mod4-lt}
 use Rattle.rank.specs.Coord.{rank_of}
-use Rattle.rank.specs.Answers.{reach, no_rank, ranked_of, mark_of}
+use Rattle.rank.specs.Answers.{reach, no_rank, Ranked, Rank, Nothing, Refused, ranked_by, ranked_of, mark_of}
 use Rattle.rank.specs.Laws.Lookup.{mark-lt}
-use Rattle.rank.specs.declared.Ranked.{Ranked}
-use Rattle.rank.specs.declared.Ranked.TheVariants.{Rank, Nothing, Refused}
 use Rattle.rank.proofs.mark.Goals as goal
 
 abbrev mark_in : Ranked → ℕ
@@ -28,27 +31,17 @@ mark_in_lem y = rw (lt-ltb (mod_z y 4) 4 (mod4-lt y), eq-eqb (mod_z y 4) (mod_z 
     go true = refl
     go false = refl
 
--- a mark that the answer gives is the mark of y
-marks : (y : ℤ) (a : Ranked) → a ≡ ranked_of (mod_z y 4) y → (mark_in a ≡ mark_of y) × (mark_in a < 16)
-marks y a e = (is, subst (λ (m : ℕ). m < 16) (sym is) (mark-lt y))
-  where
-    is : mark_in a ≡ mark_of y
-    is = ap mark_in e ∙ mark_in_lem y
+-- the mark that is read off an answer
+mark_by : (a : Result (Option ℕ) Refusal) → unwrap_or (option_flatten (result_ok a)) no_rank ≡ mark_in (ranked_by a)
+mark_by (Ok (Some r)) = refl
+mark_by (Ok None) = refl
+mark_by (Err r) = refl
 
-pub returns-in-Rank : goal.returns-in-Rank
-returns-in-Rank c =
+pub returns : goal.returns
+returns c =
+    let y = c.args.y in
     let back = to_z-of_z c.ranges.y in
-    marks c.args.y (Rank c.in-Rank.rho)
-    (sym c.in-Rank.is ∙ c.rank_of.ensures.0 ∙ ap₂ ranked_of (c.residue.ensures.0 ∙ ap (λ (z : ℤ). mod_z z 4) back) back)
-
-pub returns-in-Nothing : goal.returns-in-Nothing
-returns-in-Nothing c =
-    let back = to_z-of_z c.ranges.y in
-    marks c.args.y Nothing
-    (sym c.in-Nothing.is ∙ c.rank_of.ensures.0 ∙ ap₂ ranked_of (c.residue.ensures.0 ∙ ap (λ (z : ℤ). mod_z z 4) back) back)
-
-pub returns-in-Refused : goal.returns-in-Refused
-returns-in-Refused c =
-    let back = to_z-of_z c.ranges.y in
-    marks c.args.y Refused
-    (sym c.in-Refused.is ∙ c.rank_of.ensures.0 ∙ ap₂ ranked_of (c.residue.ensures.0 ∙ ap (λ (z : ℤ). mod_z z 4) back) back)
+    let told : c.unwrap_or.result ≡ unwrap_or (option_flatten (result_ok c.rank_of.result)) no_rank = search rules in
+    let is : c.unwrap_or.result ≡ mark_of y =
+    told ∙ mark_by c.rank_of.result ∙ ap mark_in (c.rank_of.ensures.0 ∙ ap₂ ranked_of (c.residue.ensures.0 ∙ ap (λ (x : ℤ). mod_z x 4) back) back) ∙ mark_in_lem y in
+    (is, omega (arith, is, mark-lt y))

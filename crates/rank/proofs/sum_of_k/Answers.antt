@@ -1,28 +1,31 @@
--- `rank::sum_of_k`: the sum so far and the sum of what is left. Assumes nothing.
-use mathlib.Core.Path.{◌≡◌}
-use mathlib.Core.Bool.{true}
-use Prim.Native.Nat.{◌+◌, ◌<◌}
-use native.Mathlib.Omega.{arith}
-use borrow.Author.Rules.{rules}
-use lib.ListN.{length, get_or, drop}
-use Rattle.rank.specs.Vector.{ranks_below}
-use Rattle.rank.proofs.Steps.{below_next, k_step}
+-- `rank::sum_of_k`: the chain is the sum of the definition, and fits. Assumes nothing.
+use Rattle.std.proofs.Common.{rules, ◌≡◌, ◌∙◌, ℕ, ◌+◌, ◌/◌, ◌^◌, ◌<◌, length}
+use Rattle.std.proofs.lemmas.Iterator.{YieldsList-from_slice, YieldsList-from_map}
+use Rattle.std.proofs.lemmas.Iterator.Adapters.{serves_from_places}
+use Rattle.std.proofs.lemmas.Iterator.Consumers.{sum_by_from_yields_List, fits_by_from_yields_list}
+use borrow.Author.Tests.{tests}
+use Rattle.rank.proofs.Ranks.{met_below, k_is, k_fits}
 use Rattle.rank.proofs.sum_of_k.Goals as goal
 
--- the rank of this turn is small, and so are those past it
-turn : (c : goal.In-loop-j)
-    → (get_or c.args.rho c.loop-j.j 0 < 8)
-    × (ranks_below 8 (drop (c.loop-j.j + 1) c.args.rho) ≡ true)
-turn c =
-    let rho = c.args.rho in
-    let eight : length rho ≡ 8 = search rules in
-    below_next rho c.loop-j.j (omega arith) 8 c.loop-j.invariant.1
+abbrev h : ℕ → ℕ
+h r = (r + 1) / 2
 
-pub overflow_add-sum : goal.overflow_add-sum
-overflow_add-sum c = omega (arith, (turn c).0)
+pub sum-requires-clause-can : goal.sum-requires-clause-can
+sum-requires-clause-can c = (
+  tt,
+  serves_from_places (YieldsList-from_slice c.args.rho cc) (λ x q k. search rules)
+      (λ x k l e. let m : x.now < 8 = met_below 8 c.args.rho c.requires x.now k l e in search rules),
+)
 
-pub loop-j-preserved : goal.loop-j-preserved
-loop-j-preserved c =
-    let rho = c.args.rho in
-    let eight : length rho ≡ 8 = search rules in
-    (omega arith, (turn c).1, omega (arith, k_step rho c.loop-j.j (omega arith)), omega (arith, (turn c).0))
+pub sum-requires-clause-fits : goal.sum-requires-clause-fits
+sum-requires-clause-fits c =
+    let eight : length c.args.rho ≡ 8 = search rules in
+    fits_by_from_yields_list h c.args.rho c.map.result (2 ^ 32)
+    (YieldsList-from_map _ h (YieldsList-from_slice c.args.rho cc) c.map.ensures.closure (λ x r q k. search (rules, tests)))
+    (k_fits c.args.rho c.requires eight)
+
+pub returns : goal.returns
+returns c =
+    sum_by_from_yields_List h c.args.rho c.map.result c.sum.result c.sum.ensures.ran
+    (YieldsList-from_map _ h (YieldsList-from_slice c.args.rho cc) c.map.ensures.closure (λ x r q k. search (rules, tests)))
+    ∙ k_is c.args.rho

@@ -1,14 +1,14 @@
--- `rank::unpack`: the ranks laid out so far. Assumes nothing.
-use mathlib.Core.Path.{sym, ◌∙◌}
-use native.Mathlib.Omega.{arith}
-use lib.Seq.{ext_get_or}
+-- `rank::unpack`: each rank by its place. Assumes nothing.
+use Rattle.std.proofs.Common.{rules, ◌∙◌, sym, ℕ, ◌*◌, ◌/◌, ◌%◌, ◌^◌}
+use Rattle.laws.specs.Laws.Lists.{filled}
+use Rattle.laws.specs.Laws.Made.{made}
 use Rattle.rank.specs.Vector as vector
-use Rattle.rank.specs.Laws.Vector.{unpack-at}
+use Rattle.rank.specs.Laws.Vector.{unpack-at, unpack-length}
 use Rattle.rank.proofs.unpack.Goals as goal
 
 pub returns : goal.returns
 returns c =
-    let l = c.loop-j in
     let row = c.args.row in
-    ext_get_or 0 l.rho (vector.unpack 8 row) l.invariant.1
-    (λ k h. l.invariant.2 k (omega arith) ∙ sym (unpack-at 8 row k (omega arith)))
+    let h : ℕ → ℕ = λ i. row / 2 ^ (4 * i) % 16 in
+    made _ _ h c.from_fn.result 8 (λ i y q l e. search rules) 0 c.from_fn.ensures.items
+    ∙ sym (filled ℕ 0 8 h (vector.unpack 8 row) (unpack-length 8 row) (λ k l. unpack-at 8 row k l))

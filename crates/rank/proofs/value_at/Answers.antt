@@ -22,5 +22,5 @@ rule l o rho ho hr t =
 pub returns : goal.returns
 unfolding val_of
 returns c =
-    let f : SFits w32 c.wide.result = search rules in
-    to_z-of_z f ∙ rw c.wide.ensures (search (rule, c.requires.0, c.requires.1))
+    let f : SFits w32 c.from.result = search rules in
+    to_z-of_z f ∙ rw c.from.ensures (search (rule, c.requires.0, c.requires.1))

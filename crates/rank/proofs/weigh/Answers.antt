@@ -1,41 +1,31 @@
--- `rank::weigh`: the sum so far and the cost of what is left. Assumes nothing.
-use mathlib.Core.Path.{◌≡◌}
-use mathlib.Core.Bool.{true}
-use Prim.Native.Nat.{◌+◌, ◌<◌, ◌≤◌}
-use native.Mathlib.Omega.{arith}
-use borrow.Author.Rules.{rules}
-use lib.ListN.{length, get_or, drop}
-use Rattle.rank.specs.Vector.{ranks_below, sq}
-use Rattle.rank.specs.Laws.Vector.{sq_mono}
-use Rattle.rank.proofs.Steps.{below_next, cost_step}
+-- `rank::weigh`: the chain is the sum of the definition, and fits. Assumes nothing.
+use Rattle.std.proofs.Common.{rules, ◌≡◌, ◌∙◌, ℕ, ◌+◌, ◌*◌, ◌^◌, ◌<◌, length}
+use Rattle.std.proofs.lemmas.Iterator.{YieldsList-from_slice, YieldsList-from_map}
+use Rattle.std.proofs.lemmas.Iterator.Adapters.{serves_from_places}
+use Rattle.std.proofs.lemmas.Iterator.Consumers.{sum_by_from_yields_List, fits_by_from_yields_list}
+use borrow.Author.Tests.{tests}
+use Rattle.rank.proofs.Ranks.{met_below, cost_is, cost_fits}
 use Rattle.rank.proofs.weigh.Goals as goal
 
--- the rank of this turn is small, so are those past it, and its square is
-turn : (c : goal.In-loop-j)
-    → (get_or c.args.rho c.loop-j.j 0 < 16)
-    × (ranks_below 16 (drop (c.loop-j.j + 1) c.args.rho) ≡ true)
-turn c =
-    let rho = c.args.rho in
-    let eight : length rho ≡ 8 = search rules in
-    below_next rho c.loop-j.j (omega arith) 16 c.loop-j.invariant.1
+abbrev h : ℕ → ℕ
+h r = (2 * r + 1) * (2 * r + 1)
 
-square : (c : goal.In-loop-j) → sq (get_or c.args.rho c.loop-j.j 0) ≤ 961
-square c = sq_mono _ 15 (omega (arith, (turn c).0))
+pub sum-requires-clause-can : goal.sum-requires-clause-can
+sum-requires-clause-can c = (
+  tt,
+  serves_from_places (YieldsList-from_slice c.args.rho cc) (λ x q k. search rules)
+      (λ x k l e. let m : x.now < 16 = met_below 16 c.args.rho c.requires x.now k l e in search rules),
+)
 
-pub overflow_mul-m : goal.overflow_mul-m
-overflow_mul-m c = omega (arith, (turn c).0)
+pub sum-requires-clause-fits : goal.sum-requires-clause-fits
+sum-requires-clause-fits c =
+    let eight : length c.args.rho ≡ 8 = search rules in
+    fits_by_from_yields_list h c.args.rho c.map.result (2 ^ 32)
+    (YieldsList-from_map _ h (YieldsList-from_slice c.args.rho cc) c.map.ensures.closure (λ x r q k. search (rules, tests)))
+    (cost_fits c.args.rho c.requires eight)
 
-pub overflow_add-m : goal.overflow_add-m
-overflow_add-m c = omega (arith, (turn c).0)
-
-pub overflow_mul-sum : goal.overflow_mul-sum
-overflow_mul-sum c = omega (arith, square c)
-
-pub overflow_add-sum : goal.overflow_add-sum
-overflow_add-sum c = omega (arith, square c)
-
-pub loop-j-preserved : goal.loop-j-preserved
-loop-j-preserved c =
-    let rho = c.args.rho in
-    let eight : length rho ≡ 8 = search rules in
-    (omega arith, (turn c).1, omega (arith, cost_step rho c.loop-j.j (omega arith)), omega (arith, square c))
+pub returns : goal.returns
+returns c =
+    sum_by_from_yields_List h c.args.rho c.map.result c.sum.result c.sum.ensures.ran
+    (YieldsList-from_map _ h (YieldsList-from_slice c.args.rho cc) c.map.ensures.closure (λ x r q k. search (rules, tests)))
+    ∙ cost_is c.args.rho

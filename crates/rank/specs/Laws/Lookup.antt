@@ -7,8 +7,7 @@ use Rattle.rank.specs.Laws.Coord.{member, member_of, val_rank}
 use Rattle.rank.specs.Vector.{ranks_below, sq}
 use Rattle.rank.specs.Laws.Vector.{rank_first, rank_rest}
 use Rattle.rank.specs.Section.{ranks_of}
-use Rattle.rank.specs.Answers.{reach, valued_of, ranked_of, no_rank, mark_of, marks_of}
-use Rattle.rank.specs.declared.Ranked.TheVariants.{Rank, Nothing, Refused}
+use Rattle.rank.specs.Answers.{reach, valued_of, Rank, Nothing, Refused, ranked_of, no_rank, mark_of, marks_of}
 
 -- ---- a rank that the lookup reaches is found
 pub ranked-found : (o : ℕ) (y : ℤ) (r : ℕ) → o < 4 → r < reach → val_of o r ≡ y → ranked_of o y ≡ Rank r

@@ -1,5 +1,6 @@
 -- Laws of rank vectors: ranks below a number, cost, bounds, the order, packing, and what the calls answer in range. Assumes nothing.
-use Rattle.std.specs.Prelude.{◌≡◌, refl, ◌⊎◌, Bool, true, false, cond, List, [], ◌∷◌, map, T, ltb, length, get_or}
+use Rattle.std.specs.Prelude.{◌≡◌, refl, ◌⊎◌, Bool, true, false, cond, List, [], ◌∷◌, map, T, ltb, length, get_or, Result, Ok, Err}
+use Rattle.std.specs.Result.{result_unwrap_or}
 use Rattle.std.proofs.Common.{ap, ap₂, sym, subst, ◌∙◌, inl, inr, div-one, mod-eq_of_lt, not-suc-le-zero, le_of_suc-le-suc, mul-suc, mul-le-mul, arith, shr-shr, ltb→lt, lt→ltb}
 use Prim.Native.Nat.{ℕ, zero, suc, ◌+◌, ◌*◌, ◌/◌, ◌%◌, ◌^◌, ◌<◌, ◌≤◌, compare}
 use Rattle.std.proofs.lemmas.Nat.{mod-pow-add}
@@ -7,9 +8,9 @@ use Rattle.laws.specs.Laws.Tests.{and_left, and_right, and_in, is_true}
 use Rattle.laws.specs.Words.{pick3, lex_le, lex_lt}
 use Rattle.laws.specs.Laws.Order.{pick3_out, pick3-lt, pick3-eq, pick3_same, pick3-trans}
 use Rattle.rank.specs.Vector.{ranks_below, sq, cost, class, pack, unpack, before, within, bound_cut, in_class, in_middle, middle_cost, middle_cut}
+use Rattle.refusal.specs.declared.Refusal.{Refusal}
 use Rattle.refusal.specs.Refusal.{out_of_range}
-use Rattle.rank.specs.Answers.{classed_of, costed_of, held_of, packed_of}
-use Rattle.rank.specs.declared.Classed.{Classed}
+use Rattle.rank.specs.Answers.{Classed, classed_by, classed_of, costed_by, costed_of, held_by, held_of, packed_of}
 
 -- ---- ranks below b
 -- the first is below b, and so are the rest
@@ -186,6 +187,19 @@ cost-accepted v t = rw (is_true (ranks_below 16 v) t)
 pub held-accepted : (C : ℕ) (cut v : List ℕ) → T (ranks_below 16 v) → (held_of C cut v).held ≡ within C cut v
 unfolding held_of
 held-accepted C cut v t = rw (is_true (ranks_below 16 v) t)
+
+-- ---- the value of an answer, 0 or false where it is refused
+pub class_or_zero : (r : Result ℕ Refusal) → result_unwrap_or r 0 ≡ (classed_by r).class
+class_or_zero (Ok c) = refl
+class_or_zero (Err e) = refl
+
+pub cost_or_zero : (r : Result ℕ Refusal) → result_unwrap_or r 0 ≡ (costed_by r).cost
+cost_or_zero (Ok c) = refl
+cost_or_zero (Err e) = refl
+
+pub held_or_not : (r : Result Bool Refusal) → result_unwrap_or r false ≡ (held_by r).held
+held_or_not (Ok b) = refl
+held_or_not (Err e) = refl
 
 -- packing drops nothing
 pub packed_is : (v : List ℕ) → T (ranks_below 16 v) → packed_of v ≡ pack v

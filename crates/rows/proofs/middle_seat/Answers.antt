@@ -6,10 +6,10 @@ use Rattle.rows.proofs.middle_seat.Goals as goal
 
 pub returns-then-index-middle_rows : goal.returns-then-index-middle_rows
 returns-then-index-middle_rows c =
-    let a = c.args in
-    sym (middle_used a.class a.index (subst (λ (n : ℕ). a.index < n) c.middle_rows.ensures c.if-index-middle_rows.true))
+    let s = c.args.seat in
+    sym (middle_used s.class s.index (subst (λ (n : ℕ). s.index < n) c.middle_rows.ensures c.if-index-middle_rows.true))
 
 pub returns : goal.returns
 returns c =
-    let a = c.args in
-    sym (middle_unused a.class a.index (subst (λ (n : ℕ). n ≤ a.index) c.middle_rows.ensures c.if-index-middle_rows.false))
+    let s = c.args.seat in
+    sym (middle_unused s.class s.index (subst (λ (n : ℕ). n ≤ s.index) c.middle_rows.ensures c.if-index-middle_rows.false))

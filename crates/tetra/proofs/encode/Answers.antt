@@ -5,7 +5,6 @@ use mir.Val.{SFits}
 use Rattle.std.proofs.Math.Facts.{to_z-of_z}
 use Rattle.rank.specs.Coord.{parity_of}
 use Rattle.rank.specs.Section.{bits_of}
-use Rattle.rows.specs.declared.Seated.TheVariants.{At}
 use Rattle.rows.specs.Table.{class_index_of, mixed_index_of}
 use Rattle.refusal.specs.declared.Refusal.TheVariants.{NoCodeword}
 use Rattle.trellis.specs.Trellis.{label_in}
@@ -15,8 +14,8 @@ use Rattle.tetra.specs.Why.{OfParity, InCode}
 use Rattle.tetra.proofs.Encoding.{label-read, seat-read, middle-read, parity-read, code_read, no_parity, no_code, no_first, no_second}
 use Rattle.tetra.proofs.Encoding.{no_third, classes-lt, no-sum, read-narrow, read_word}
 use Rattle.tetra.proofs.encode.Goals as goal
-use Rattle.tetra.proofs.encode.Goals.{After-one_parity, After-to_trio-t, After-label_of, In_ok-x, After-class_index, In-At, After-mixed_index}
-use Rattle.tetra.proofs.encode.Goals.{In-At-mixed_index, After-class_index-2, In-At-class_index}
+use Rattle.tetra.proofs.encode.Goals.{After-one_parity, After-to_trio-t, After-label_of, In_ok-x, After-class_index, In-Some, After-mixed_index}
+use Rattle.tetra.proofs.encode.Goals.{In-Some-mixed_index, After-class_index-2, In-Some-class_index}
 
 -- ---- what is known of the point once it is read that far
 long : (c : After-one_parity) → length c.args.point ≡ 24
@@ -75,7 +74,7 @@ returns-in_default-mixed_index c =
     let y = c.args.point in
     let m = goal.at.returns-in_default-mixed_index c in
     let n = long m.After-one_parity in
-    let f0 = sym (first m.After-class_index n) ∙ c.in-At.is in
+    let f0 = sym (first m.After-class_index n) ∙ c.in-Some.is in
     no_second y n (one m.After-to_trio-t n) (code m.In_ok-x n).0 f0 (second m.After-mixed_index n) c.in_default-mixed_index.is
 
 pub returns-in_default-class_index : goal.returns-in_default-class_index
@@ -83,8 +82,8 @@ returns-in_default-class_index c =
     let y = c.args.point in
     let m = goal.at.returns-in_default-class_index c in
     let n = long m.After-one_parity in
-    let f0 = sym (first m.After-class_index n) ∙ c.in-At.is in
-    let f1 = sym (second m.After-mixed_index n) ∙ c.in-At-mixed_index.is in
+    let f0 = sym (first m.After-class_index n) ∙ c.in-Some.is in
+    let f1 = sym (second m.After-mixed_index n) ∙ c.in-Some-mixed_index.is in
     no_third y n (one m.After-to_trio-t n) (code m.In_ok-x n).0 f0 f1 (third m.After-class_index-2 n) c.in_default-class_index.is
 
 pub overflow_add-p : goal.overflow_add-p
@@ -92,9 +91,9 @@ overflow_add-p c =
     let y = c.args.point in
     let m = goal.at.overflow_add-p c in
     let n = long m.After-one_parity in
-    let f0 = sym (first m.After-class_index n) ∙ c.in-At.is in
-    let f1 = sym (second m.After-mixed_index n) ∙ c.in-At-mixed_index.is in
-    let f2 = sym (third m.After-class_index-2 n) ∙ c.in-At-class_index.is in
+    let f0 = sym (first m.After-class_index n) ∙ c.in-Some.is in
+    let f1 = sym (second m.After-mixed_index n) ∙ c.in-Some-mixed_index.is in
+    let f2 = sym (third m.After-class_index-2 n) ∙ c.in-Some-class_index.is in
     let small = classes-lt y n (one m.After-to_trio-t n) (code m.In_ok-x n).0 f0 f1 f2 in
     omega (arith, small.0, c.parity-p.ensures.1)
 
@@ -103,40 +102,40 @@ overflow_add-p-2 c =
     let y = c.args.point in
     let m = goal.at.overflow_add-p-2 c in
     let n = long m.After-one_parity in
-    let f0 = sym (first m.After-class_index n) ∙ c.in-At.is in
-    let f1 = sym (second m.After-mixed_index n) ∙ c.in-At-mixed_index.is in
-    let f2 = sym (third m.After-class_index-2 n) ∙ c.in-At-class_index.is in
+    let f0 = sym (first m.After-class_index n) ∙ c.in-Some.is in
+    let f1 = sym (second m.After-mixed_index n) ∙ c.in-Some-mixed_index.is in
+    let f2 = sym (third m.After-class_index-2 n) ∙ c.in-Some-class_index.is in
     let small = classes-lt y n (one m.After-to_trio-t n) (code m.In_ok-x n).0 f0 f1 f2 in
     omega (arith, small.0, small.1, c.parity-p.ensures.1)
 
-pub returns-then-r3-p : goal.returns-then-r3-p
-returns-then-r3-p c =
+pub returns-then-last-p : goal.returns-then-last-p
+returns-then-last-p c =
     let y = c.args.point in
-    let m = goal.at.returns-then-r3-p c in
+    let m = goal.at.returns-then-last-p c in
     let n = long m.After-one_parity in
-    let f0 = sym (first m.After-class_index n) ∙ c.in-At.is in
-    let f1 = sym (second m.After-mixed_index n) ∙ c.in-At-mixed_index.is in
-    let f2 = sym (third m.After-class_index-2 n) ∙ c.in-At-class_index.is in
-    no-sum y n (one m.After-to_trio-t n) (code m.In_ok-x n).0 f0 f1 f2 (λ e. omega (arith, c.if-r3-p.true))
+    let f0 = sym (first m.After-class_index n) ∙ c.in-Some.is in
+    let f1 = sym (second m.After-mixed_index n) ∙ c.in-Some-mixed_index.is in
+    let f2 = sym (third m.After-class_index-2 n) ∙ c.in-Some-class_index.is in
+    no-sum y n (one m.After-to_trio-t n) (code m.In_ok-x n).0 f0 f1 f2 (λ e. omega (arith, c.if-last-p.true))
 
 pub word_by-requires : goal.word_by-requires
 word_by-requires c =
     let y = c.args.point in
     let m = goal.at.word_by-requires c in
     let n = long m.After-one_parity in
-    let f0 = sym (first m.After-class_index n) ∙ c.in-At.is in
-    let f1 = sym (second m.After-mixed_index n) ∙ c.in-At-mixed_index.is in
-    let f2 = sym (third m.After-class_index-2 n) ∙ c.in-At-class_index.is in
+    let f0 = sym (first m.After-class_index n) ∙ c.in-Some.is in
+    let f1 = sym (second m.After-mixed_index n) ∙ c.in-Some-mixed_index.is in
+    let f2 = sym (third m.After-class_index-2 n) ∙ c.in-Some-class_index.is in
     let k = code m.In_ok-x n in
-    read-narrow y n (one m.After-to_trio-t n) k.0 f0 f1 f2 k.1 (omega (arith, c.if-r3-p.false))
+    read-narrow y n (one m.After-to_trio-t n) k.0 f0 f1 f2 k.1 (omega (arith, c.if-last-p.false))
 
 pub returns : goal.returns
 returns c =
     let y = c.args.point in
     let m = goal.at.returns c in
     let n = long m.After-one_parity in
-    let f0 = sym (first m.After-class_index n) ∙ c.in-At.is in
-    let f1 = sym (second m.After-mixed_index n) ∙ c.in-At-mixed_index.is in
-    let f2 = sym (third m.After-class_index-2 n) ∙ c.in-At-class_index.is in
+    let f0 = sym (first m.After-class_index n) ∙ c.in-Some.is in
+    let f1 = sym (second m.After-mixed_index n) ∙ c.in-Some-mixed_index.is in
+    let f2 = sym (third m.After-class_index-2 n) ∙ c.in-Some-class_index.is in
     let k = code m.In_ok-x n in
-    read_word y n (one m.After-to_trio-t n) k.0 f0 f1 f2 k.1 (omega (arith, c.if-r3-p.false)) c.word_by.ensures
+    read_word y n (one m.After-to_trio-t n) k.0 f0 f1 f2 k.1 (omega (arith, c.if-last-p.false)) c.word_by.ensures

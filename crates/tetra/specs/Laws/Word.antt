@@ -19,7 +19,7 @@ use Rattle.rows.specs.Table.{row_ranks, class_index_of, mixed_index_of, middle_r
 use Rattle.rows.specs.Laws.Rule.{row_in}
 use Rattle.rows.specs.Laws.Middle.{middle_row_in}
 use Rattle.rows.specs.Answers.{class_index_in, class_index-row, mixed_index_in, mixed_index-row, mixed_index-back}
-use Rattle.rows.specs.declared.Seated.TheVariants.{At}
+use Rattle.rows.specs.Table.{At}
 use Rattle.trellis.specs.Code.{codeword_of, columns, label}
 use Rattle.trellis.specs.Trellis.{label_of}
 use Rattle.trellis.specs.Laws.Code.{label_low}
