@@ -1,13 +1,17 @@
--- Digits written from the last one to the first. Assumes nothing.
+-- Digits: how many there are, and how they are written from the last one to the first. Assumes nothing.
 use mathlib.Core.Path.{◌≡◌, refl, sym, ap, ◌∙◌}
 use mathlib.Core.List.{List, [], ◌∷◌}
-use Prim.Native.Nat.{ℕ, suc, ◌+◌, ◌/◌, ◌%◌, ◌≤◌}
+use Prim.Native.Nat.{ℕ, suc, ◌+◌, ◌/◌, ◌%◌, ◌^◌, ◌<◌, ◌≤◌}
 use native.Mathlib.Omega.{arith}
 use lib.ListN.{length, set}
 use lib.Seq.{sets, set_comm}
 use Rattle.laws.specs.Laws.Lists.{sets-append}
-use Rattle.text.specs.Text.{hex, hex_digit}
-use Rattle.text.specs.Laws.Text.{hex-length}
+use Rattle.text.specs.Text.{decimal, hex, hex_digit}
+use Rattle.text.specs.Laws.Text.{decimal-fits, hex-length}
+
+-- a number of 64 bits has at most twenty digits
+pub twenty : (n : ℕ) → n < 2 ^ 64 → length (decimal n) ≤ 20
+twenty n h = decimal-fits 19 n (omega arith)
 
 -- a store behind a row of stores may go before it
 set_behind : (vs l : List ℕ) (at p d : ℕ) → at + length vs ≤ p → sets (set l p d) at vs ≡ set (sets l at vs) p d

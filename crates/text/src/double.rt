@@ -19,16 +19,21 @@ pub fn double_of(bits: u64) -> f64
     }
 }
 
-// The 16 digits of a double's bits. A zero has its sign cleared, and a NaN is written as a zero.
+// The bits that are written for a double. A zero has its sign cleared, and a NaN is written as a zero.
+#[tactic(auto, unfolding(crate::specs::Doubles::bits_shown))]
+fn shown(x: f64) -> u64
+    ensures { result ≡ bits_shown x }
+{
+    if x < 0.0 || 0.0 < x {
+        return f64::to_bits(x);
+    }
+    0
+}
+
+// The 16 digits of these bits.
 pub fn put_double(out: &mut [u8], at: usize, x: f64) -> usize
     ensures value { result ≡ place_behind out.old at (hex 16 (bits_shown x)) }
     ensures out_after { out.new ≡ placed out.old at (hex 16 (bits_shown x)) }
 {
-    if x < 0.0 {
-        return put_hex(out, at, f64::to_bits(x), 16);
-    }
-    if 0.0 < x {
-        return put_hex(out, at, f64::to_bits(x), 16);
-    }
-    put_hex(out, at, 0, 16)
+    put_hex(out, at, shown(x), 16)
 }

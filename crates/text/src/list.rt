@@ -10,7 +10,7 @@ fn minus(v: u64) -> i32
     requires { v ≤ 2 ^ 31 }
     ensures { result ≡ neg_ℤ (pos v) }
 {
-    (0 - (v as i64)) as i32
+    -(v as i64) as i32
 }
 
 // A number below zero: so -0 is none.

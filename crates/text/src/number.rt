@@ -5,8 +5,5 @@ ghost use Rattle.std.specs.Prelude.{◌≡◌, ◌^◌, ◌<◌, nat_abs};
 pub fn magnitude(z: i32) -> u64
     ensures { (result ≡ nat_abs z) × (result < 2 ^ 32) }
 {
-    if z < 0 {
-        return (0 - (z as i64)) as u64;
-    }
-    z as u64
+    z.unsigned_abs() as u64
 }

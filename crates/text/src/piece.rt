@@ -11,13 +11,7 @@ use crate::write::{copy, digits, hex_digits, list, signed};
 fn has_room(size: usize, at: usize, n: usize) -> bool
     ensures { result ≡ leb (at + n) size }
 {
-    if size < at {
-        return false;
-    }
-    if size - at < n {
-        return false;
-    }
-    true
+    at <= size && n <= size - at
 }
 
 // A text.

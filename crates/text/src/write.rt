@@ -11,12 +11,9 @@ pub(crate) fn copy(out: &mut [u8], at: usize, text: &[u8]) -> usize
     ensures { (result ≡ at + length text.now) ×
         (out.new ≡ sets out.old at text.now) }
 {
-    let mut j: usize = 0;
-    while j < text.len() {
-        out[at + j] = text[j];
-        j += 1;
-    }
-    at + j
+    let end = at + text.len();
+    out[at..end].copy_from_slice(text);
+    end
 }
 
 pub(crate) fn digits(out: &mut [u8], at: usize, n: u64) -> usize
@@ -63,10 +60,8 @@ pub(crate) fn hex_digits(out: &mut [u8], at: usize, n: u64, k: usize) -> usize
     ensures { (result ≡ at + k) × (out.new ≡ sets out.old at (hex k n)) }
 {
     let mut v = n;
-    let mut j = k;
-    while 0 < j {
-        j -= 1;
-        out[at + j] = hex_digit(v % 16);
+    for j in 0..k {
+        out[at + (k - 1 - j)] = hex_digit(v % 16);
         v = v / 16;
     }
     at + k

@@ -1,14 +1,10 @@
 -- `piece::put_decimal` meets its contract: the digits are written into an array, and put from there. Assumes nothing.
-use Rattle.std.proofs.Common.{◌≡◌, sym, arith, ℕ, ◌^◌, ◌<◌, ◌≤◌, length, take}
+use Rattle.std.proofs.Common.{◌≡◌, sym, arith, length, take}
 use Rattle.std.proofs.lemmas.List.{length-take-le}
 use Rattle.text.specs.Laws.Placed.{front_back}
 use Rattle.text.specs.Text.{decimal}
-use Rattle.text.specs.Laws.Text.{decimal-fits}
+use Rattle.text.proofs.Digits.{twenty}
 use Rattle.text.proofs.piece.put_decimal.Goals as goal
-
--- a number of 64 bits has at most twenty digits
-twenty : (n : ℕ) → n < 2 ^ 64 → length (decimal n) ≤ 20
-twenty n h = decimal-fits 19 n (omega arith)
 
 pub digits-k-requires : goal.digits-k-requires
 digits-k-requires c = omega (arith, twenty c.args.n (omega arith))

@@ -1,19 +1,15 @@
 -- `piece::put_line` meets its contract: the value and LF are written into an array, and key and value put one behind the other. Assumes nothing.
 use borrow.Author.Tests.{leb-true}
-use Rattle.std.proofs.Common.{◌≡◌, sym, ap, ◌∙◌, arith, false, leb, List, ◌++◌, ℕ, ◌+◌, ◌^◌, ◌<◌, ◌≤◌, length, take, replicate, length-append}
+use Rattle.std.proofs.Common.{◌≡◌, sym, ap, ◌∙◌, arith, false, leb, List, ◌++◌, ℕ, ◌+◌, ◌≤◌, length, take, replicate, length-append}
 use Rattle.std.proofs.lemmas.List.{length-take-le}
 use Rattle.std.proofs.lemmas.List.Edits.{sets}
 use Rattle.laws.specs.Laws.Lists.{sets-append}
 use Rattle.text.specs.Text.{bytes, line, decimal}
 use Rattle.text.specs.Placed.{placed, place_behind}
-use Rattle.text.specs.Laws.Text.{decimal-fits}
 use Rattle.text.specs.Laws.Placed.{placed-fits, behind-fits, front_back}
+use Rattle.text.proofs.Digits.{twenty}
 use Rattle.text.proofs.piece.put_line.Goals as goal
 use Rattle.text.proofs.piece.put_line.Goals.{After-copy-k, Else-not-has_room}
-
--- a number of 64 bits has at most twenty digits
-twenty : (n : ℕ) → n < 2 ^ 64 → length (decimal n) ≤ 20
-twenty n h = decimal-fits 19 n (omega arith)
 
 pub digits-d-requires : goal.digits-d-requires
 digits-d-requires c = omega (arith, twenty c.args.n (omega arith))
