@@ -6,12 +6,11 @@ ghost use Rattle.std.specs.Float.{binary64};
 ghost use Rattle.std.specs.Float.Ieee.{mul, sub};
 ghost use Rattle.laws.specs.Words.{tab};
 ghost use Rattle.rank.specs.Coord.{val_of};
-ghost use Rattle.search.specs.Record.{bit_at};
 ghost use Rattle.search.specs.Tables.{tables};
 ghost use Rattle.search.specs.Entries as search;
 ghost use Rattle.fallback_entries.specs.Inner.Flat.{member_at, members_of, squares_of, sum_to, fallback_in};
 
-use search::Entry;
+use search::{Entry, bit};
 use std::array;
 
 mod tables;
@@ -43,14 +42,6 @@ fn squares(m: &[f64; 8], t: [f64; 8]) -> [f64; 64]
     ensures { result ≡ squares_of m.now t }
 {
     array::from_fn(|i| sq(m[i % 8], t[i / 8]))
-}
-
-// Bit j of a pattern.
-fn bit(c: u8, j: usize) -> usize
-    requires { j < 8 }
-    ensures { (result ≡ bit_at c j) × (result < 2) }
-{
-    ((c >> j) & 1) as usize
 }
 
 // Rank j of a packed row, cut to two bits.

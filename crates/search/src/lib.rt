@@ -2,8 +2,9 @@
 // crates above hold code that is proved to compute it.
 #![tactic(auto)]
 
-ghost use Rattle.std.specs.Prelude.{◌≡◌, true};
+ghost use Rattle.std.specs.Prelude.{◌≡◌, ◌<◌, true};
 ghost use Rattle.std.specs.Float.Ieee.Scale.{finite};
+ghost use Rattle.search.specs.Record.{bit_at};
 ghost use Rattle.search.specs.Solve.{infinity};
 ghost use Rattle.search.specs.Entries.{infeasible};
 
@@ -156,4 +157,15 @@ pub fn infinite() -> f64
     ensures { result ≡ infinity }
 {
     1.0 / 0.0
+}
+
+// Bit j of a pattern of eight bits; 0 past the last.
+pub fn bit(pattern: u8, j: usize) -> usize
+    ensures { (result ≡ bit_at pattern j) × (result < 2) }
+{
+    if j < 8 {
+        usize::from((pattern >> j) & 1)
+    } else {
+        0
+    }
 }

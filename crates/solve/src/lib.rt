@@ -8,7 +8,6 @@
 
 ghost use Rattle.std.specs.Prelude.{◌≡◌, cond, ℕ, ◌<◌, ◌≤◌, ◌+◌, ◌*◌, ◌-◌, ◌%◌, ◌^◌, min, get_or, eqb};
 ghost use Rattle.laws.specs.Words.{tab};
-ghost use Rattle.search.specs.Record.{bit_at};
 ghost use Rattle.search.specs.Bound.{lex_of};
 ghost use Rattle.search.specs.Bound as search;
 ghost use Rattle.search.specs.Base.{slot_of, key_set, base_best};
@@ -120,14 +119,6 @@ fn more(n: usize) -> usize
     n - 1
 }
 
-// Bit j of a pattern.
-fn bit(pattern: u8, j: usize) -> usize
-    requires { j < 8 }
-    ensures { (result ≡ bit_at pattern j) × (result < 2) }
-{
-    ((pattern >> j) & 1) as usize
-}
-
 // ---- the bound
 
 // The four bytes in the other order.
@@ -194,7 +185,7 @@ impl Places {
         ensures { result.at ≡ places_of pattern shrink }
     {
         Places {
-            at: array::from_fn(|j| 16 * shrink + 2 * j + bit(pattern, j)),
+            at: array::from_fn(|j| 16 * shrink + 2 * j + search::bit(pattern, j)),
         }
     }
 
