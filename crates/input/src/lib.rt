@@ -1,41 +1,74 @@
-// Standard input, read whole into a lent buffer. What a read of it answers is the host's to say, so no contract can say what is
-// read there. The reader may be any other, and of one whose bytes are known the contract says which of them were read.
+// Standard input, read whole into a lent buffer, and what a program that answers it by one text does. What a read of it answers is the
+// host's to say, so no contract can say what is read there. The reader may be any other, and of one whose bytes are known the contract says
+// which of them were read.
 #![tactic(auto)]
 
-ghost use Rattle.std.specs.Prelude.{◌≡◌, ◌<◌, ◌≤◌, length, take, IsTrue};
+ghost use Rattle.std.specs.Prelude.{◌≡◌, ◌<◌, ◌≤◌, length, take, IsOk};
 ghost use Rattle.std.specs.Io.KnownBytes.{Consumes, IsAtEnd};
+ghost use Rattle.input.specs.Input.{count_of};
 
+use std::convert::AsSlice;
+use std::io;
 use std::io::Read;
 
-// How many bytes were read, and whether each read went well.
-#[derive(Clone, Copy)]
-pub struct Input {
-    pub good: bool,
-    pub length: usize,
+// A read that failed, and how many bytes were read before it.
+#[derive(Drop)]
+pub struct Cut {
+    pub count: usize,
+    pub error: io::Error,
 }
 
-// Reads until text is full or the input ends, or until a read fails. `read_exact` would take an input that ends before text is full for
-// one that fails, and it does not say how many bytes it read.
-pub fn read_all<R: Read>(from: &mut R, text: &mut [u8]) -> Input
-    ensures within { result.length ≤ length text.new }
-    ensures prefix { result.length ≡ length (take result.length text.new) }
-    ensures bytes { Consumes (R.remaining from.old) (R.remaining from.new) (take result.length text.new) }
-    ensures end { IsTrue result.good → result.length < length text.new → IsAtEnd (R.remaining from.new) }
-{
-    let mut n = 0;
-    while n < text.len() {
-        let got = from.read(&mut text[n..]);
-        let more = got.unwrap_or(0);
-        if more == 0 {
-            return Input {
-                good: got.is_ok(),
-                length: n,
-            };
-        }
-        n += more;
+impl From<Cut> for io::Error {
+    fn from(cut: Cut) -> io::Error {
+        cut.error
     }
-    Input {
-        good: true,
-        length: n,
+}
+
+// Reads until text is full or the input ends, or until a read fails, and answers how many bytes were read. `read_exact` would take an input
+// that ends before text is full for one that fails, and it does not say how many bytes it read.
+pub fn read_all<R: Read>(from: &mut R, text: &mut [u8]) -> Result<usize, Cut>
+    ensures within { count_of result ≤ length text.new }
+    ensures prefix { count_of result ≡ length (take (count_of result) text.new) }
+    ensures bytes { Consumes (R.remaining from.old) (R.remaining from.new) (take (count_of result) text.new) }
+    ensures end { IsOk result → count_of result < length text.new → IsAtEnd (R.remaining from.new) }
+{
+    let mut count = 0;
+    while count < text.len() {
+        match from.read(&mut text[count..]) {
+            Ok(0) => break,
+            Ok(more) => count += more,
+            Err(error) => return Err(Cut { count, error }),
+        }
+    }
+    Ok(count)
+}
+
+// Says on standard error that a read or a write failed. What cannot be said there either is said nowhere.
+fn complain(rt: &impl Eprint, name: &str, what: &str) {
+    let _ = eprintln!(rt; "{name}: {what}");
+}
+
+// Reads the input into `text`, and prints what `answer` makes of it in one call. A read or a write that fails is said under the program's
+// name: after a read nothing is printed, after a write nothing more is.
+pub fn print_answer<A: AsSlice<u8> + Drop, F: FnOnce(&[u8]) -> A>(
+    rt: &(impl Print + Eprint),
+    from: &mut impl Read,
+    name: &str,
+    text: &mut [u8],
+    answer: F,
+)
+    requires { F.IsAlwaysCallable answer }
+{
+    let Ok(count) = read_all(from, text) else {
+        complain(rt, name, "standard input cannot be read");
+        return;
+    };
+    let printed = answer(&text[..count]);
+    if rt.write_all(printed.as_slice()).is_err() {
+        complain(
+            rt,
+            name,
+            "standard output cannot be written, some of the answer is missing",
+        );
     }
 }

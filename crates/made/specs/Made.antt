@@ -1,10 +1,9 @@
 -- What the program mkpage prints. Assumes nothing.
-use Rattle.std.specs.Prelude.{Bool, cond, ◌||◌, List, [], ◌++◌, ℕ, ◌-◌, eqb, ℤ, length, replicate}
+use Rattle.std.specs.Prelude.{Bool, cond, ◌||◌, List, [], ◌++◌, ℕ, eqb, ℤ}
 use Rattle.refusal.specs.Refusal.{too_large, too_far, no_page}
 use Rattle.text.specs.Text.{bytes, line, decimal, refused_text}
 use Rattle.trace.specs.Answer.{Reading, trace, malformed}
 use Rattle.writer.specs.Writer.{text_of, written_of}
-use Rattle.made.specs.declared.Made.{Made}
 
 -- 2 and 4 are about a block
 unfoldable pub names_block : ℕ → Bool
@@ -26,7 +25,3 @@ page_or_refusal num count samples =
 unfoldable pub made : Reading → List ℕ
 made (trace num count samples) = page_or_refusal num count samples
 made malformed = refused_lines no_page 0
-
--- a text in an array of 1,189 bytes, with zeros behind it
-abbrev pub in_array : List ℕ → Made
-in_array text = record { length = length text; bytes = text ++ replicate (1189 - length text) 0 }

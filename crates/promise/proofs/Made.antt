@@ -13,8 +13,9 @@ use Rattle.writer.specs.Writer.{Written, scale_of, words_for, text_of, written_o
 use Rattle.writer.specs.WriterRule as writer
 use Rattle.text.specs.Text.{refused_text}
 use Rattle.trace.specs.Reader.{trace_in}
-use Rattle.made.specs.declared.Made.{Made}
-use Rattle.made.specs.Made.{names_block, refused_lines, page_or_refusal, made, in_array}
+use Rattle.text.specs.declared.printed.Printed.TheInside.{Inside}
+use Rattle.text.specs.Held.{in_array}
+use Rattle.made.specs.Made.{names_block, refused_lines, page_or_refusal, made}
 use Rattle.made.specs.MadeRule.{on_trace, on_no_trace}
 use Rattle.promise.specs.Written.{block-coded, block-nearest}
 use Rattle.promise.specs.Demands.{FormsPages, FormsPage, RefusesToForm, WritesPage, CodesBlocks, WritesNearest, RefusesToWrite, WritesOthers, MakesPages, MakesNoOther}
@@ -89,11 +90,11 @@ module _ (num count : ℕ) (x : List ℤ) (old new : List ℕ) (r : Written) (q 
   }
 
 -- ---- `mkpage`
-pub of_mkpage : (text : List ℕ) (r : Made) → r ≡ in_array (made (trace_in text)) → record { makes_pages : MakesPages text r; makes_no_other : MakesNoOther text r }
+pub of_mkpage : (text : List ℕ) (r : Inside 1189) → r ≡ in_array 1189 (made (trace_in text)) → record { makes_pages : MakesPages text r; makes_no_other : MakesNoOther text r }
 unfolding page_or_refusal text_of refused_lines names_block
 of_mkpage text r q = record {
   makes_pages = λ num count x p.
-      let e = q ∙ ap in_array (on_trace text num count x p) in
+      let e = q ∙ ap (in_array 1189) (on_trace text num count x p) in
       (λ z. e ∙ rw (eq-eqb _ 0 z), λ z. e ∙ rw (ne_eqb _ 0 z));
-  makes_no_other = λ h. q ∙ ap in_array (on_no_trace text h ∙ append-nil (refused_text 9));
+  makes_no_other = λ h. q ∙ ap (in_array 1189) (on_no_trace text h ∙ append-nil (refused_text 9));
 }

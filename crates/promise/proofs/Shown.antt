@@ -30,9 +30,10 @@ use Rattle.encoder.specs.Numbers.{at-number, at-refused, number_is, is_refused}
 use Rattle.demands.specs.Promised.{Coded}
 use Rattle.demands.proofs.Codes.{at_scale_lem, samples}
 use Rattle.demands.specs.Demand3.{nearest-at_scale}
-use Rattle.shown.specs.declared.Printed.{Printed}
+use Rattle.text.specs.declared.printed.Printed.TheInside.{Inside}
+use Rattle.text.specs.Held.{in_array}
 use Rattle.page.specs.Answer.{Parsed, PageRead, Reading, page, malformed, number_in, words_in, counts_in, parsed_of, read_of, cells_of}
-use Rattle.shown.specs.Shown.{printed, in_array}
+use Rattle.shown.specs.Shown.{printed}
 use Rattle.page.specs.Reader.{reading_of}
 use Rattle.page.specs.Page.{Page}
 use Rattle.page.specs.Counts.{page_counts, ToEven}
@@ -238,12 +239,12 @@ of_parse text r q = record {
   parses_no_other = λ h. q ∙ ap parsed_of (no_page_lem text h);
 }
 
-pub of_print : (text : List ℕ) (r : Printed) → r ≡ in_array (printed (reading_of text))
+pub of_print : (text : List ℕ) (r : Inside 20672) → r ≡ in_array 20672 (printed (reading_of text))
     → record { prints_pages : PrintsPages text r; prints_refusal : PrintsRefusal text r }
 unfolding printed number_in words_in counts_in
 of_print text r q = record {
-  prints_pages = λ num words p. q ∙ ap (λ (a : Reading). in_array (printed a)) (accepted text num words p);
-  prints_refusal = λ h. q ∙ ap (λ (a : Reading). in_array (printed a)) (no_page_lem text h);
+  prints_pages = λ num words p. q ∙ ap (λ (a : Reading). in_array 20672 (printed a)) (accepted text num words p);
+  prints_refusal = λ h. q ∙ ap (λ (a : Reading). in_array 20672 (printed a)) (no_page_lem text h);
 }
 
 -- what is accepted had room, so the counts stand at the buffer's start

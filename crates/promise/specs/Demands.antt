@@ -21,7 +21,8 @@
 --   a page: its text, its num and its words    `Page`                                 page/specs/Page
 --   its counts                                 `page_counts`                           page/specs/Counts
 --   z / d as the nearest whole number          `ToEven`                               page/specs/Counts
---   what is printed, in an array               `block_texts`, `in_array`                shown/specs/Shown
+--   what is printed                            `block_texts`                            shown/specs/Shown
+--   a text in an array, with zeros behind it   `in_array`                               text/specs/Held
 --   and of a refusal                           `refused_text`                          text/specs/Text
 --   the text of a page                         `page_text`                             page/specs/Page
 --   a page's scale, num / 256                  `scale_of`                              writer/specs/Writer
@@ -55,21 +56,21 @@ use Rattle.float.specs.Distance.{sq_dist, margin}
 use Rattle.root.specs.Root.{NearestRoot, Rooted}
 use Rattle.score.specs.Score.{Scored, doubles_of}
 use Rattle.encoder.specs.Encode.{Coding, empty_code, encode_at_scale}
-use Rattle.shown.specs.declared.Printed.{Printed}
+use Rattle.text.specs.declared.printed.Printed.TheInside.{Inside}
+use Rattle.text.specs.Held.{in_array}
 use Rattle.page.specs.Page.{Page, page_text}
 use Rattle.page.specs.Counts.{page_counts, ToEven}
 use Rattle.page.specs.Answer.{Parsed, PageRead}
 use Rattle.page.specs.Form.{Formed}
 use Rattle.text.specs.Text.{refused_text}
-use Rattle.shown.specs.Shown.{block_texts, in_array}
+use Rattle.shown.specs.Shown.{block_texts}
 use Rattle.writer.specs.Writer.{Written, scale_of, words_for, written_of, Wide, Far, NoneBelow}
 use Rattle.summary.specs.Summary.{points, odds, summary_of, cells_for}
 use Rattle.summary.specs.Answer.{Summed, longer}
 use Rattle.summary.specs.SummaryRule.{Agrees, Kept, RowIs}
 use Rattle.demands.specs.Promised.{Even, Coded}
 use Rattle.trace.specs.Trace.{Trace}
-use Rattle.made.specs.declared.Made.{Made}
-use Rattle.made.specs.Made.{refused_lines, in_array as Made·in_array}
+use Rattle.made.specs.Made.{refused_lines}
 
 -- ---- WORDS (demand 2): `decode` of the word w answers y, `encode` of y answers e
 -- Every word decodes to the point that its fields define, and that is a lattice point that has a word.
@@ -206,13 +207,13 @@ abbrev pub AcceptsPagesOnly : List ℕ → PageRead → Type 0
 AcceptsPagesOnly text r = r.number ≢ 9 → (num : ℕ) × (words : List ℕ) × Page text num words
 
 -- `unpage` prints the blocks of a page, from index 0 on, which are none for an empty page,
-abbrev pub PrintsPages : List ℕ → Printed → Type 0
+abbrev pub PrintsPages : List ℕ → Inside 20672 → Type 0
 PrintsPages text r = (num : ℕ) (words : List ℕ) → Page text num words
-    → r ≡ in_array (block_texts 0 (length words) (page_counts num words))
+    → r ≡ in_array 20672 (block_texts 0 (length words) (page_counts num words))
 
 -- and for every other text the line of the refusal alone.
-abbrev pub PrintsRefusal : List ℕ → Printed → Type 0
-PrintsRefusal text r = NoPage text → r ≡ in_array (refused_text 9)
+abbrev pub PrintsRefusal : List ℕ → Inside 20672 → Type 0
+PrintsRefusal text r = NoPage text → r ≡ in_array 20672 (refused_text 9)
 
 -- ---- PAGES THAT ARE FORMED (request 2026-01): `form` of num and the first `count` of 64 words answers r, and
 -- the buffer that held `old` then holds `new`
@@ -307,15 +308,15 @@ NoTrace text = (num count : ℕ) (x : List ℤ) → Trace text num count x → �
 
 -- It prints for a trace the page of its num and samples, where `write` accepts them and has room for any page,
 -- and else the lines of the refusal, with the block of a 2 and of a 4;
-abbrev pub MakesPages : List ℕ → Made → Type 0
+abbrev pub MakesPages : List ℕ → Inside 1189 → Type 0
 MakesPages text r = (num count : ℕ) (x : List ℤ) → Trace text num count x
-    → ((written_of num count x 1189).number ≡ 0 → r ≡ Made·in_array (page_of num count x))
+    → ((written_of num count x 1189).number ≡ 0 → r ≡ in_array 1189 (page_of num count x))
     × ((written_of num count x 1189).number ≢ 0
-    → r ≡ Made·in_array (refused_lines (written_of num count x 1189).number (written_of num count x 1189).block))
+    → r ≡ in_array 1189 (refused_lines (written_of num count x 1189).number (written_of num count x 1189).block))
 
 -- and for every other text the line of the refusal 9 alone.
-abbrev pub MakesNoOther : List ℕ → Made → Type 0
-MakesNoOther text r = NoTrace text → r ≡ Made·in_array (refused_text 9)
+abbrev pub MakesNoOther : List ℕ → Inside 1189 → Type 0
+MakesNoOther text r = NoTrace text → r ≡ in_array 1189 (refused_text 9)
 
 -- ---- SUMMARIES BESIDE PAGES (request 2026-04): rows of four cells, the page's first and then one for each block. A call
 -- answers r, and the rows that held `old` then hold `new`.

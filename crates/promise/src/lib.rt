@@ -24,6 +24,7 @@ ghost use Rattle.promise.specs.Demands.{RefusesOthers, AcceptsMembers, KeepsPoin
 ghost use Rattle.promise.specs.Demands.{Numbered, KeepsCode, ReturnsNearest, Scores, Scaled};
 ghost use Rattle.promise.specs.Demands.{RootIsNearest, RootOfZero, RootRefused};
 ghost use Rattle.root.specs.Root.{rooted_by};
+ghost use Rattle.text.specs.Held.{in_array};
 ghost use Rattle.promise.specs.Demands.{ParsesPages, ParsesNoOther, PrintsPages, PrintsRefusal};
 ghost use Rattle.promise.specs.Demands.{FormsPages, FormsPage, RefusesToForm};
 ghost use Rattle.promise.specs.Demands.{WritesPage, CodesBlocks, WritesNearest, RefusesToWrite, WritesOthers};
@@ -37,11 +38,10 @@ ghost use Rattle.promise.specs.Demands.{KeepsEvenCode, ReturnsNearestEven, Agree
 ghost use Rattle.promise.specs.Demands.{ReadsEvenPages, RefusesToReadEven};
 
 use encoder::Code;
-use made::Made;
 use page::Page;
 use refusal::Refusal;
 use score::Scales;
-use shown::Printed;
+use text::Printed;
 use writer::Unwritten;
 
 // A word's point, and what the point encodes to.
@@ -227,9 +227,9 @@ pub fn from_page(text: &[u8], out: &mut [i32]) -> Result<usize, Refusal>
 }
 
 // `unpage`.
-pub fn printed_page(text: &[u8]) -> Printed
-    ensures prints_pages { PrintsPages text.now result }
-    ensures prints_refusal { PrintsRefusal text.now result }
+pub fn printed_page(text: &[u8]) -> Printed<20672>
+    ensures prints_pages { PrintsPages text.now (in_array 20672 result) }
+    ensures prints_refusal { PrintsRefusal text.now (in_array 20672 result) }
 {
     shown::unpage(text)
 }
@@ -265,9 +265,9 @@ pub fn written_page(
 }
 
 // `mkpage`: a trace to its page, as text.
-pub fn made_page(text: &[u8]) -> Made
-    ensures makes_pages { MakesPages text.now result }
-    ensures makes_no_other { MakesNoOther text.now result }
+pub fn made_page(text: &[u8]) -> Printed<1189>
+    ensures makes_pages { MakesPages text.now (in_array 1189 result) }
+    ensures makes_no_other { MakesNoOther text.now (in_array 1189 result) }
 {
     made::mkpage(text)
 }

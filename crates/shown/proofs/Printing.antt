@@ -1,19 +1,18 @@
 -- Blocks in a row, and what is printed of the answer that `read` gives. Assumes nothing.
 use mathlib.Core.Path.{◌≡◌, refl, ap, sym, ◌∙◌}
 use mathlib.Core.List.{List, ◌++◌}
-use Prim.Native.Nat.{ℕ, zero, suc, ◌+◌, ◌*◌, ◌-◌, ◌≤◌}
+use Prim.Native.Nat.{ℕ, zero, suc, ◌+◌, ◌*◌, ◌≤◌}
 use native.Mathlib.Omega.{arith}
 use native.Mathlib.Numerals.{add-one}
 use borrow.Author.Tests.{eq-eqb, ne_eqb}
 use lib.IntN.{ℤ}
-use lib.ListN.{length, take, drop, replicate, length-drop}
-use lib.Seq.{sets, drop-drop, take-append-le, drop-append-le}
+use lib.ListN.{length, take, drop, length-drop}
+use lib.Seq.{drop-drop, take-append-le, drop-append-le}
 use Rattle.text.specs.Text.{refused_text}
-use Rattle.text.specs.Laws.Placed.{into_zeros}
 use Rattle.page.specs.Answer.{PageRead, number_in, words_in, counts_in, read_of, cells_of}
 use Rattle.page.specs.Reader.{reading_of}
 use Rattle.page.specs.Laws.Answer.{counts-length, few_words, whole_read, whole_cells}
-use Rattle.shown.specs.Shown.{block_text, block_texts, printed, in_array}
+use Rattle.shown.specs.Shown.{block_text, block_texts, printed}
 
 -- ---- blocks in a row
 -- what is left to write at block i: that block, and what is left at i + 1
@@ -59,10 +58,3 @@ prints_blocks text r old cells e s room z =
     let R = reading_of text in
     rw (eq-eqb (number_in R) 0 (sym (number text r (length old) e room) ∙ z), count text r (length old) e room, s, whole_cells text old room)
     (texts_front 0 (length (words_in R)) (counts_in R) (drop (length (counts_in R)) old) (counts-length R))
-
--- a text that was written into zeros
-pub in_array_lem : (n : ℕ) (array text : List ℕ) → n ≡ length text → n ≤ 20672 → array ≡ sets (replicate 20672 0) 0 text
-    → record { length = n; bytes = array } ≡ in_array text
-in_array_lem n array text e h s =
-    let z : array ≡ text ++ replicate (20672 - length text) 0 = s ∙ into_zeros 20672 text (omega arith) in
-    rw (e, z)

@@ -1,8 +1,7 @@
 -- What the program prints. Assumes nothing.
-use Rattle.std.specs.Prelude.{cond, List, [], ◌++◌, ℕ, zero, suc, ◌-◌, eqb, ℤ, length, take, drop, replicate}
+use Rattle.std.specs.Prelude.{cond, List, [], ◌++◌, ℕ, zero, suc, eqb, ℤ, length, take, drop}
 use Rattle.text.specs.Text.{bytes, line, decimal, listed, refused_text}
 use Rattle.page.specs.Answer.{Reading, number_in, words_in, counts_in}
-use Rattle.shown.specs.declared.Printed.{Printed}
 
 -- a block: its index, and its counts
 unfoldable pub block_text : ℕ → List ℤ → List ℕ
@@ -16,7 +15,3 @@ block_texts i (suc n) counts = block_text i (take 24 counts) ++ block_texts (suc
 -- what is printed for a text: the page's blocks, which are none for an empty page; or the refusal alone
 unfoldable pub printed : Reading → List ℕ
 printed R = cond (eqb (number_in R) 0) (block_texts 0 (length (words_in R)) (counts_in R)) (refused_text (number_in R))
-
--- a text in an array of 20,672 bytes, with zeros behind it
-abbrev pub in_array : List ℕ → Printed
-in_array text = record { length = length text; bytes = text ++ replicate (20672 - length text) 0 }

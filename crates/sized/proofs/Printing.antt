@@ -1,15 +1,14 @@
--- Pieces one behind another, rows in a row, and what is printed of the answer that `summarise` gives. Assumes nothing.
+-- Rows in a row, and what is printed of the answer that `summarise` gives. Assumes nothing.
 use mathlib.Core.Path.{◌≡◌, refl, ap, sym, ◌∙◌}
-use mathlib.Core.List.{List, ◌++◌}
-use Prim.Native.Nat.{ℕ, zero, suc, ◌+◌, ◌*◌, ◌-◌, ◌≤◌}
+use mathlib.Core.List.{List, [], ◌++◌, append_assoc}
+use Prim.Native.Nat.{ℕ, zero, suc, ◌+◌, ◌*◌, ◌≤◌}
 use native.Mathlib.Omega.{arith}
 use native.Mathlib.Numerals.{add-one}
 use borrow.Author.Tests.{eq-eqb, ne_eqb, le-ltb}
 use lib.IntN.{ℤ, pos}
-use lib.ListN.{length, get_or, drop, replicate, length-drop, get_or-append}
-use lib.Seq.{sets, length-sets, get_or-drop, drop-drop, drop-append-le}
-use Rattle.text.specs.Text.{bytes, line, signed, refused_text}
-use Rattle.text.specs.Laws.Placed.{Grown, grown-more, placed-fits, behind-fits, into_zeros}
+use lib.ListN.{length, get_or, drop, length-drop, get_or-append}
+use lib.Seq.{get_or-drop, drop-drop, drop-append-le}
+use Rattle.text.specs.Text.{bytes, line, decimal, signed, refused_text}
 use Rattle.page.specs.Answer.{Reading, page, malformed, number_in, words_in}
 use Rattle.page.specs.Reader.{reading_of}
 use Rattle.page.specs.Laws.Answer.{few_words}
@@ -17,22 +16,11 @@ use Rattle.summary.specs.Summary.{summary_of, cells_for}
 use Rattle.summary.specs.Answer.{Summed, summarise_number, summarised, summarised_rows}
 use Rattle.summary.specs.Laws.Rows.{summary-length}
 use Rattle.summary.specs.Laws.Answers.{sum-good}
-use Rattle.sized.specs.Sized.{row_text, block_text, block_texts, summary_text, printed, in_array}
-
--- ---- one more piece, which a call has written whole
-pub grown-put : {old array : List ℕ} {start top at most : ℕ} {text : List ℕ} → Grown old start top array at most text
-    → (piece : List ℕ) (k : ℕ) {next : List ℕ} {end : ℕ} → most + k ≤ top
-    → (end ≡ at + length piece) × (end ≤ at + k) × (next ≡ sets array at piece)
-    → Grown old start top next end (most + k) (text ++ piece)
-grown-put {old} {array} {start} {top} {at} {most} {text} g piece k fits w =
-    let n : length array ≡ length old = rw g.wrote.holds (length-sets old start text) in
-    let room : at + length piece ≤ length array = omega (arith, g.wrote.place, g.near, g.room, w.0, w.1) in
-    grown-more g piece k (omega (arith, w.0, w.1)) fits (w.0 ∙ sym (behind-fits array at piece room))
-    (w.2 ∙ sym (placed-fits array at piece room))
+use Rattle.sized.specs.Sized.{row_text, block_text, block_texts, summary_text, printed}
 
 -- ---- rows
 -- the row that stands at `from`
-pub row_at : (cells : List ℤ) (from : ℕ)
+row_at : (cells : List ℤ) (from : ℕ)
     → line (bytes "sum=") (signed (get_or cells from (pos 0)))
     ++ (line (bytes "largest=") (signed (get_or cells (from + 1) (pos 0)))
     ++ (line (bytes "smallest=") (signed (get_or cells (from + 2) (pos 0))) ++ line (bytes "odd=") (signed (get_or cells (from + 3) (pos 0)))))
@@ -42,6 +30,24 @@ row_at cells from =
     let first : get_or (drop from cells) 0 (pos 0) ≡ get_or cells from (pos 0) =
     get_or-drop from cells 0 (pos 0) ∙ ap (λ (k : ℕ). get_or cells k (pos 0)) (omega arith) in
     rw (first, get_or-drop from cells 1 (pos 0), get_or-drop from cells 2 (pos 0), get_or-drop from cells 3 (pos 0))
+
+-- its four lines, one behind another
+pub row_lines : (cells : List ℤ) (from : ℕ) {l0 l1 l2 l3 l4 : List ℕ} → l0 ≡ []
+    → l1 ≡ l0 ++ line (bytes "sum=") (signed (get_or cells from (pos 0)))
+    → l2 ≡ l1 ++ line (bytes "largest=") (signed (get_or cells (from + 1) (pos 0)))
+    → l3 ≡ l2 ++ line (bytes "smallest=") (signed (get_or cells (from + 2) (pos 0)))
+    → l4 ≡ l3 ++ line (bytes "odd=") (signed (get_or cells (from + 3) (pos 0)))
+    → l4 ≡ row_text (drop from cells)
+row_lines cells from e0 e1 e2 e3 e4 = rw (e4, e3, e2, e1, e0, ← row_at cells from) (simp append_assoc)
+
+-- the line of the count and the page's row, and behind them the blocks
+pub summary_lines : (n : ℕ) (cells : List ℤ) {all row : List ℕ} → all ≡ ([] ++ line (bytes "blocks=") (decimal n)) ++ row → row ≡ row_text cells
+    → all ++ block_texts 0 n (drop 4 cells) ≡ summary_text n cells
+unfolding summary_text
+summary_lines n cells e is =
+    let first = line (bytes "blocks=") (decimal n) in
+    let rest = block_texts 0 n (drop 4 cells) in
+    ap (λ (t : List ℕ). t ++ rest) (e ∙ ap (λ (r : List ℕ). first ++ r) is) ∙ append_assoc first (row_text cells) rest
 
 -- what is left to write at block i: that block, and what is left at i + 1
 pub texts_next : (cells : List ℤ) (i n : ℕ)
@@ -124,10 +130,3 @@ prints_summary text r old cells e s room z =
     let n : number_in R ≡ 0 = sym (number text r (length old) e room) ∙ z in
     rw (eq-eqb (number_in R) 0 n, count text r (length old) e room, s, whole_rows text old room n)
     (summary_front (length (words_in R)) (summary_of (words_in R)) (drop (cells_for (length (words_in R))) old) (summary-length (words_in R)))
-
--- a text that was written into zeros
-pub in_array_lem : (n : ℕ) (array text : List ℕ) → n ≡ length text → n ≤ 5331 → array ≡ sets (replicate 5331 0) 0 text
-    → record { length = n; bytes = array } ≡ in_array text
-in_array_lem n array text e h s =
-    let z : array ≡ text ++ replicate (5331 - length text) 0 = s ∙ into_zeros 5331 text (omega arith) in
-    rw (e, z)

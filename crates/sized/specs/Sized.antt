@@ -1,9 +1,8 @@
 -- What the program prints of a page's summary. Assumes nothing.
-use Rattle.std.specs.Prelude.{cond, List, [], ◌++◌, ℕ, zero, suc, ◌-◌, eqb, ℤ, pos, length, get_or, drop, replicate}
+use Rattle.std.specs.Prelude.{cond, List, [], ◌++◌, ℕ, zero, suc, eqb, ℤ, pos, length, get_or, drop}
 use Rattle.text.specs.Text.{bytes, line, decimal, signed, refused_text}
 use Rattle.page.specs.Answer.{Reading, number_in, words_in}
 use Rattle.summary.specs.Summary.{summary_of}
-use Rattle.sized.specs.declared.Printed.{Printed}
 
 -- the row that some cells begin with, a line for each cell
 unfoldable pub row_text : List ℤ → List ℕ
@@ -29,7 +28,3 @@ summary_text n cells = line (bytes "blocks=") (decimal n) ++ (row_text cells ++ 
 -- what is printed for a text: the summary of the page, or the refusal alone
 unfoldable pub printed : Reading → List ℕ
 printed R = cond (eqb (number_in R) 0) (summary_text (length (words_in R)) (summary_of (words_in R))) (refused_text (number_in R))
-
--- a text in an array of 5,331 bytes, with zeros behind it
-abbrev pub in_array : List ℕ → Printed
-in_array text = record { length = length text; bytes = text ++ replicate (5331 - length text) 0 }

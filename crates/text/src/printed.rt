@@ -6,6 +6,7 @@ ghost use Rattle.text.specs.Doubles.{bits_shown};
 ghost use Rattle.text.specs.Printed.{appended};
 
 use crate::{double, piece};
+use std::convert::AsSlice;
 use std::marker::Model;
 
 // A text of at most N bytes: how many there are, and the bytes, with zeros behind them. Contracts see the text alone.
@@ -117,5 +118,13 @@ impl<const N: usize> Printed<N> {
     {
         let behind = piece::put_list(&mut self.bytes, self.length, zs);
         self.length = length_with(self.length, behind, N);
+    }
+}
+
+impl<const N: usize> AsSlice<u8> for Printed<N> {
+    ghost items = { λ text. text };
+
+    fn as_slice(&self) -> &[u8] {
+        self.as_slice()
     }
 }

@@ -1,9 +1,0 @@
--- `read_full` ends: less room is left after each read.
-use Rattle.std.proofs.Common.{◌-◌, ◌≤◌, length}
-use Rattle.page_runs.proofs.read_full.Given as goal
-
-abbrev pub invariant-loop-n : goal.invariant-loop-n
-invariant-loop-n g l = l.n ≤ length l.buf
-
-abbrev pub decreases-loop-n : goal.decreases-loop-n
-decreases-loop-n g l = length l.initial.buf - l.n
