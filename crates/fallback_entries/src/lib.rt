@@ -15,6 +15,15 @@ use std::array;
 
 mod tables;
 
+// The member of o + 4Z at the rank rho. It stands in crate tetra too: rank's own that has no refusal has a `requires`, which no public function may
+// have.
+fn member(o: u32, rho: u32) -> i32
+    requires { (o < 4) × (rho < 8) }
+    ensures { result ≡ val_of o rho }
+{
+    rank::val(o, rho).unwrap_or(0)
+}
+
 // A squared difference.
 fn sq(x: f64, t: f64) -> f64
     ensures { result ≡ mul binary64 (sub binary64 x t) (sub binary64 x t) }
@@ -27,7 +36,7 @@ fn member_at(p: u32, i: usize) -> f64
     requires { (p < 2) × (i < 8) }
     ensures { result ≡ member_at p i }
 {
-    f64::from(rank::value_at(p + 2 * ((i / 4) as u32), (i % 4) as u32))
+    f64::from(member(p + 2 * ((i / 4) as u32), (i % 4) as u32))
 }
 
 fn members(p: u32) -> [f64; 8]

@@ -29,7 +29,7 @@ const VALUES: [i8; 32] = [
 ];
 
 // The member of o + 4Z at the rank `rho`, for whoever knows that both are in range.
-pub fn value_at(o: u32, rho: u32) -> i32
+fn value_at(o: u32, rho: u32) -> i32
     requires { (o < 4) × (rho < 8) }
     ensures { result ≡ val_of o rho }
 {

@@ -27,6 +27,15 @@ pub struct Bytes {
 }
 
 // ---- from a word to its point
+// The member of o + 4Z at the rank `rho`. It stands in crate fallback_entries too: rank's own that has no refusal has a `requires`, which no public
+// function may have.
+fn value(o: u32, rho: u32) -> i32
+    requires { (o < 4) × (rho < 8) }
+    ensures { result ≡ val_of o rho }
+{
+    rank::val(o, rho).unwrap_or(0)
+}
+
 // The eight coordinates of parity `p`, of the bits of `c`, bit 0 first, and of the ranks `rho`.
 fn section_of(p: u32, c: u32, rho: [u32; 8]) -> [i32; 8]
     requires { (p < 2) × T (ranks_below 8 rho) }
@@ -34,7 +43,7 @@ fn section_of(p: u32, c: u32, rho: [u32; 8]) -> [i32; 8]
 {
     let mut out = [0i32; 8];
     for j in 0..8u32 {
-        out[j as usize] = rank::value_at(p + 2 * ((c >> j) & 1), rho[j as usize]);
+        out[j as usize] = value(p + 2 * ((c >> j) & 1), rho[j as usize]);
     }
     out
 }

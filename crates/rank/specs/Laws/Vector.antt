@@ -1,7 +1,7 @@
 -- Laws of rank vectors: ranks below a number, cost, bounds, the order, packing, and what the calls answer in range. Assumes nothing.
-use Rattle.std.specs.Prelude.{◌≡◌, refl, ◌⊎◌, Bool, true, false, cond, List, [], ◌∷◌, map, T, ltb, length, get_or, Result, Ok, Err}
+use Rattle.std.specs.Prelude.{◌≡◌, refl, ◌⊎◌, Bool, true, false, cond, List, [], ◌∷◌, map, T, ltb, length, get_or, ℤ, pos, Result, Ok, Err}
 use Rattle.std.specs.Result.{result_unwrap_or}
-use Rattle.std.proofs.Common.{ap, ap₂, sym, subst, ◌∙◌, inl, inr, div-one, mod-eq_of_lt, not-suc-le-zero, le_of_suc-le-suc, mul-suc, mul-le-mul, arith, shr-shr, ltb→lt, lt→ltb}
+use Rattle.std.proofs.Common.{ap, ap₂, sym, subst, ◌∙◌, inl, inr, div-one, mod-eq_of_lt, not-suc-le-zero, le_of_suc-le-suc, mul-suc, mul-le-mul, arith, shr-shr, ltb→lt, lt→ltb, lt-ltb}
 use Prim.Native.Nat.{ℕ, zero, suc, ◌+◌, ◌*◌, ◌/◌, ◌%◌, ◌^◌, ◌<◌, ◌≤◌, compare}
 use Rattle.std.proofs.lemmas.Nat.{mod-pow-add}
 use Rattle.laws.specs.Laws.Tests.{and_left, and_right, and_in, is_true}
@@ -10,7 +10,8 @@ use Rattle.laws.specs.Laws.Order.{pick3_out, pick3-lt, pick3-eq, pick3_same, pic
 use Rattle.rank.specs.Vector.{ranks_below, sq, cost, class, pack, unpack, before, within, bound_cut, in_class, in_middle, middle_cost, middle_cut}
 use Rattle.refusal.specs.declared.Refusal.{Refusal}
 use Rattle.refusal.specs.Refusal.{out_of_range}
-use Rattle.rank.specs.Answers.{Classed, classed_by, classed_of, costed_by, costed_of, held_by, held_of, packed_of}
+use Rattle.rank.specs.Coord.{val_of}
+use Rattle.rank.specs.Answers.{Valued, valued_by, valued_of, Classed, classed_by, classed_of, costed_by, costed_of, held_by, held_of, packed_of}
 
 -- ---- ranks below b
 -- the first is below b, and so are the rest
@@ -189,6 +190,15 @@ unfolding held_of
 held-accepted C cut v t = rw (is_true (ranks_below 16 v) t)
 
 -- ---- the value of an answer, 0 or false where it is refused
+pub value_or_zero : (r : Result ℤ Refusal) → result_unwrap_or r (pos 0) ≡ (valued_by r).value
+value_or_zero (Ok y) = refl
+value_or_zero (Err e) = refl
+
+-- within its ranges `val` answers the member
+pub valued : {o rho : ℕ} → o < 4 → rho < 8 → valued_of o rho ≡ record { number = 0; value = val_of o rho }
+unfolding valued_of
+valued ho hr = rw (lt-ltb _ _ ho, lt-ltb _ _ hr)
+
 pub class_or_zero : (r : Result ℕ Refusal) → result_unwrap_or r 0 ≡ (classed_by r).class
 class_or_zero (Ok c) = refl
 class_or_zero (Err e) = refl

@@ -17,8 +17,8 @@ use Rattle.tetra.specs.Laws.Point.{point_at_lem}
 use Rattle.tetra.proofs.Rows.{laid_more, laid_all}
 use Rattle.tetra.proofs.section_of.Goals as goal
 
-pub value_at-requires : goal.value_at-requires
-value_at-requires c =
+pub value-requires : goal.value-requires
+value-requires c =
     let j = c.loop-j.j in (
       omega (arith, and_mask (c.args.c / 2 ^ j) 1, c.requires.0),
       below_at_lem 8 c.args.rho c.requires.1 j (omega arith),
@@ -28,9 +28,9 @@ pub loop-j-preserved : goal.loop-j-preserved
 loop-j-preserved c =
     let l = c.loop-j in
     let a = c.args in
-    let f : SFits w32 c.value_at.result = search rules in
+    let f : SFits w32 c.value.result = search rules in
     laid_more ℤ (pos 0) (point_at a.p a.c a.rho) 8 l.out l.j _ l.invariant (omega arith)
-    (to_z-of_z f ∙ c.value_at.ensures ∙ ap (λ (b : ℕ). val_of (a.p + 2 * b) (get_or a.rho l.j 0)) (and_mask (a.c / 2 ^ l.j) 1)
+    (to_z-of_z f ∙ c.value.ensures ∙ ap (λ (b : ℕ). val_of (a.p + 2 * b) (get_or a.rho l.j 0)) (and_mask (a.c / 2 ^ l.j) 1)
     ∙ sym (point_at_lem a.p a.c a.rho l.j (omega arith)))
 
 pub returns : goal.returns
