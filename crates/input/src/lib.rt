@@ -1,13 +1,11 @@
-// Standard input, read whole into a lent buffer, and what a program that answers it by one text does. What a read of it answers is the
-// host's to say, so no contract can say what is read there. The reader may be any other, and of one whose bytes are known the contract says
-// which of them were read.
+// Standard input, read whole into a lent buffer. What a read of it answers is the host's to say, so no contract can say what is read there.
+// The reader may be any other, and of one whose bytes are known the contract says which of them were read.
 #![tactic(auto)]
 
 ghost use Rattle.std.specs.Prelude.{◌≡◌, ◌<◌, ◌≤◌, length, take, IsOk};
 ghost use Rattle.std.specs.Io.KnownBytes.{Consumes, IsAtEnd};
 ghost use Rattle.input.specs.Input.{count_of};
 
-use std::convert::AsSlice;
 use std::io;
 use std::io::Read;
 
@@ -41,34 +39,4 @@ pub fn read_all<R: Read>(from: &mut R, text: &mut [u8]) -> Result<usize, Cut>
         }
     }
     Ok(count)
-}
-
-// Says on standard error that a read or a write failed. What cannot be said there either is said nowhere.
-fn complain(rt: &impl Eprint, name: &str, what: &str) {
-    let _ = eprintln!(rt; "{name}: {what}");
-}
-
-// Reads the input into `text`, and prints what `answer` makes of it in one call. A read or a write that fails is said under the program's
-// name: after a read nothing is printed, after a write nothing more is.
-pub fn print_answer<A: AsSlice<u8> + Drop, F: FnOnce(&[u8]) -> A>(
-    rt: &(impl Print + Eprint),
-    from: &mut impl Read,
-    name: &str,
-    text: &mut [u8],
-    answer: F,
-)
-    requires { F.IsAlwaysCallable answer }
-{
-    let Ok(count) = read_all(from, text) else {
-        complain(rt, name, "standard input cannot be read");
-        return;
-    };
-    let printed = answer(&text[..count]);
-    if rt.write_all(printed.as_slice()).is_err() {
-        complain(
-            rt,
-            name,
-            "standard output cannot be written, some of the answer is missing",
-        );
-    }
 }
