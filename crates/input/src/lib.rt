@@ -10,7 +10,7 @@ use std::io;
 use std::io::Read;
 
 // A read that failed, and how many bytes were read before it.
-#[derive(Drop)]
+#[derive(Clone, Copy)]
 pub struct Cut {
     pub count: usize,
     pub error: io::Error,
