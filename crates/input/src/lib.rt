@@ -17,6 +17,8 @@ pub struct Cut {
 }
 
 impl From<Cut> for io::Error {
+    ghost from_gives = { λ cut error. error ≡ cut.error };
+
     fn from(cut: Cut) -> io::Error {
         cut.error
     }
