@@ -64,11 +64,9 @@ pub fn point_line(y: [i32; 24]) -> Reply
 }
 
 // A refusal that is about a section names it.
-fn refused_point(reason: Refusal) -> Reply
-    ensures { result ≡ refused_point (number_of reason) (section_of reason) }
+fn refused_at(number: u32, section: u32) -> Reply
+    ensures { result ≡ refused_point number section }
 {
-    let number = reason.number();
-    let section = reason.section();
     if section == 0 {
         return refused(number);
     }
@@ -77,6 +75,12 @@ fn refused_point(reason: Refusal) -> Reply
     line.put_decimal(number as u64);
     line.put_line(b" section=", section as u64);
     line
+}
+
+fn refused_point(reason: Refusal) -> Reply
+    ensures { result ≡ refused_point (number_of reason) (section_of reason) }
+{
+    refused_at(reason.number(), reason.section())
 }
 
 // The line of a point's word, or of the reason why it has none.
