@@ -6,7 +6,6 @@ use Prim.Native.Nat.{ℕ}
 use Rattle.std.specs.Prelude.{Ok, Err}
 use Rattle.refusal.specs.Laws.{never_0}
 use Rattle.trace.specs.Answer.{Traced, traced_by}
-use Rattle.writer.specs.Writer.{written_by}
 use Rattle.trace.specs.Reader.{trace_in}
 use Rattle.trace.specs.Laws.Answer.{Accepted, read-trace}
 use Rattle.made.specs.Made.{page_or_refusal, made}
