@@ -18,10 +18,10 @@
  *
  * Stack. yultarvas_encode, yultarvas_encode_with, yultarvas_encode_at_scale, the same three of the even
  * profile (yultarvas_even_encode, yultarvas_even_encode_with, yultarvas_even_encode_at_scale) and
- * yultarvas_write_page take up to 146 KB of stack (145,080 bytes on x86-64), the other calls up to 20 KB. No
+ * yultarvas_write_page take up to 137 KB of stack (136,152 bytes on x86-64), the other calls up to 20 KB. No
  * theorem bounds the stack: tools/stack.sh measures it. Have YULTARVAS_STACK bytes left.
  *
- * Memory. Code and constants take 91 KB on x86-64 (tools/rom.sh measures them), and nothing of the library
+ * Memory. Code and constants take 82 KB on x86-64 (tools/rom.sh measures them), and nothing of the library
  * can be written.
  *
  * Doubles. The contracts are over IEEE 754 doubles, rounded to nearest with ties to even, subnormal numbers

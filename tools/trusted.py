@@ -13,7 +13,13 @@ have to be read. This is the rule:
 - A statement is the contract of a public function (but for the crates PARTS below), or the type of a
   promised theorem: one that docs/PROMISES.md names in backquotes.
 - A definition has to be believed if a statement mentions it, or if the type or the body of a definition that
-  has to be believed mentions it. The structs and enums of the calls, in src/, count as definitions.
+  has to be believed mentions it. The structs, enums, traits and `type` lines of the calls, in src/, count as
+  definitions. What is ghost counts with the type that it stands in, or that its `impl` is of: a struct's ghost
+  fields, and the members of an `impl Model`, since what a contract says of a value is said of its view. With a
+  trait count its ghost members and what its methods ensure.
+- A public function is a `pub fn`, a method of a public trait, and a method with a contract of its own in an
+  `impl` of a trait: without one, what it says is the trait's. The type that an `impl` is of is one of those of its
+  functions.
 - A proof need not be believed. Where a definition mentions a theorem, the theorem's type is followed, and its
   proof is not.
 
@@ -22,11 +28,12 @@ marked `abbrev` or `unfoldable`, a `data` and a `record` are definitions. Any ot
 where its type ends in an equation, an order, another connective of propositions, or a proposition of this
 repository; else it is a definition. Names are found by their spelling: a bound variable that is spelled like
 an imported definition counts as that definition. A name in docs/PROMISES.md means the theorem of the file
-that its line names. Where it names none, a name that is a definition's or a call's too means that; any other
-means every theorem of that name in specs/, or, where none stands there, every public one in proofs/. What the
-script cannot read is an error, and no list is made.
+that its line names. Where it names none, a name that is a definition's or a call's too (but no method's) means
+that; any other means every theorem of that name in specs/, or, where none stands there, every public one in
+proofs/. What the script cannot read is an error, and no list is made.
 
-A definition's lines are those of its type and its clauses, without comments and blank lines.
+A definition's lines are those of its type and its clauses, without comments and blank lines; of a struct those
+of its ghost members too.
 """
 import re
 import sys
@@ -53,6 +60,20 @@ KEYWORDS = set('''data record deriving module where use mod pub package using op
 # one behind the variables of a `λ` is dropped.
 TOKEN = re.compile(r'"(?:[^"\\]|\\.)*"|\.(?=\S)|[(){};,@«»]|[^\s(){}.;,@"«»]+')
 
+# What has to be looked at to find the ends of items in src/: quoted texts and characters, which are passed over,
+# the brackets, and the semicolon. A quote behind a letter begins no character: it is of a name as x'. A double
+# quote that is left over is of a text that was not read.
+MARK = re.compile(r'"(?:[^"\\\n]|\\.)*"|(?<![\w\'])b?\'(?:[^\'\\]|\\[^\']+)\'|[(){}\[\];"]')
+
+# What begins an item of src/; an item that ends with a semicolon alone; a clause of a contract up to its bracket.
+HEAD = re.compile(r'(pub(?:\([^)]*\))? )?(ghost use|ghost|use|mod|static|struct|enum|type|trait|impl|'
+                  r'(?:const |unsafe |extern "C" )*fn|const)\b\s*(.*)', re.S)
+SHUT = re.compile(r'(?:pub(?:\([^)]*\))? )?(?:(?:ghost|use|static|type)\b|const (?!fn\b))')
+CLAUSE = re.compile(r'\b(?:ensures|requires)(?:\s+\w+)?$')
+
+# A type's name with the path before it.
+TYPE = re.compile(r'(?:\w+::)*[A-Z]\w*')
+
 
 class Unread(Exception):
     """Something stands in a file that this script does not understand."""
@@ -64,6 +85,7 @@ class Item:
     def __init__(self, place, name, kind, marks, around):
         self.place, self.name, self.kind, self.marks, self.around = place, name, kind, marks, around
         self.type, self.body, self.lines, self.theorem = [], [], 0, False
+        self.ghost = []  # of a type in src/: what is ghost in it, each part with the file that it stands in
 
     def key(self):
         return (self.place, self.name)
@@ -207,33 +229,174 @@ def module_of(path):
     if not m or not (ROOT / 'crates' / m.group(1)).is_dir():
         return 'library ' + path
     crate, parts = m.group(1), m.group(2).split('.')
-    if 'declared' in parts:
-        parts = [p for p in parts[2:] if p != 'TheVariants']
-        return '%s/src/%s' % (crate, parts[0] if len(parts) > 1 else 'lib'), parts[-1]
+    if parts[:2] == ['specs', 'declared']:
+        within = parts.pop() if parts[-1] in ('TheVariants', 'TheInside') else ''
+        return '%s/src/%s' % (crate, '/'.join(parts[2:-1]) or 'lib'), parts[-1], within
     return '%s/%s' % (crate, '/'.join(parts))
 
 
+# ---- src/
+def marks(place, text):
+    """The outer brackets, each with its start and the end behind it, and the semicolons that stand in none."""
+    level = start = 0
+    for found in MARK.finditer(text):
+        mark = found.group()
+        if mark in '([{':
+            start = start if level else found.start()
+            level += 1
+        elif mark in ')]}':
+            level -= 1
+            if level == 0:
+                yield mark, start, found.end()
+        elif mark == ';' and level == 0:
+            yield mark, found.start(), found.end()
+        if level < 0 or mark == '"':
+            raise Unread('%s: %s' % (place, text[found.start():].split('\n')[0]))
+    if level:
+        raise Unread('%s: a bracket that is not closed' % place)
+
+
+def pieces(place, text):
+    """The items of a file or a block: what stands before the block or the semicolon that ends it, and the block."""
+    out, begun = [], 0
+    for mark, start, end in marks(place, text):
+        head = text[begun:start].strip()
+        if mark == ']' and head in ('#', '#!'):  # an attribute
+            begun = end
+        elif mark == ';' or mark == '}' and not SHUT.match(head) and not CLAUSE.search(head):
+            out.append((head, text[start + 1:end - 1] if mark == '}' else None))
+            begun = end
+    if text[begun:].strip():
+        raise Unread('%s: %s' % (place, text[begun:].strip().split('\n')[0]))
+    return out
+
+
+def lines_of(text):
+    return len([l for l in text.split('\n') if l.strip()])
+
+
+def clauses(head):
+    """The words of a call's head. A clause's name is none of a definition."""
+    said = re.sub(r'\b(ensures|requires)\s+\w+\s+\{', r'\1 {', head)
+    return tokens(said.replace('::', ' '))
+
+
 class Source:
-    """A file of src/: its structs and enums, and the contracts of its public functions."""
+    """A file of src/: its types, what is ghost in its blocks, and the contracts of its public functions."""
 
     def __init__(self, path, crate):
-        self.crate, self.place = crate, '%s/src/%s' % (crate, path.stem)
-        self.uses, self.modules, self.items, self.calls, self.types = {}, {}, {}, {}, {}
+        self.crate, self.place = crate, '%s/%s' % (crate, path.relative_to(ROOT / 'crates' / crate).with_suffix(''))
+        self.uses, self.modules, self.items, self.types = {}, {}, {}, {}
+        self.calls = []     # name, words of the contract, and names of types: a list, since methods may share a name
+        self.names = set()  # of the calls but for methods, which are named beside their type: one would hide a theorem
+        self.ghosts = []    # the head of an `impl`, and a ghost member of it
         text = '\n'.join(re.sub(r'(^|\s)//.*', '', l) for l in path.read_text(encoding='utf-8').split('\n'))
-        for use in re.findall(r'^ghost (use .*?;)', text, re.M | re.S):
-            Spec.use(self, ' '.join(use.split()))
-        for path_, name in re.findall(r'^(?:pub )?use ([\w:]+)::(\w+);', text, re.M):
-            self.types[name] = path_
-        types = r'^(?:pub(?:\([^)]*\))? )?(struct|enum) (\w+)(.*?^\}|\([^)]*\);)'
-        for kind, name, body in re.findall(types, text, re.M | re.S):
-            item = Item(self.place, name, kind, [], [])
-            item.body = tokens(body)
-            item.lines = len([l for l in body.split('\n') if l.strip()])
-            self.items[name] = item
-        calls = r'^ *pub (?:extern "C" )?fn (\w+)(.*?)(?:^ *|\) *|-> *\S+ +)\{$'
-        for found in re.finditer(calls, text, re.M | re.S):
-            said = re.sub(r'\b(ensures|requires) \w+ \{', r'\1 {', found.group(2))  # a clause's name is none of a definition
-            self.calls[found.group(1)] = tokens(said.replace('::', ' '))
+        for head, block in pieces(self.place, text):
+            self.read(head, block)
+        for name in set(self.uses) & set(self.items):
+            raise Unread('%s: two meanings of %s' % (self.place, name))
+
+    def read(self, head, block):
+        """Takes an item of the file."""
+        marks, kind, after = self.begun(head)
+        if kind == 'ghost use':
+            self.bring(head)
+        elif kind == 'use':
+            self.imports(after)
+        elif kind in ('struct', 'enum', 'type'):
+            self.declares(kind, after, block)
+        elif kind == 'trait':
+            self.trait(after, block, marks == 'pub')
+        elif kind == 'impl':
+            self.impl(after, block)
+        elif kind.endswith('fn'):
+            self.call(after, '', marks == 'pub')
+        elif kind == 'ghost' or block is not None:  # no member of anything; a module in this file
+            raise Unread('%s: %s' % (self.place, head.split('\n')[0]))
+
+    def begun(self, head):
+        """An item's `pub`, its kind, and what stands behind that."""
+        found = HEAD.match(head)
+        if not found:
+            raise Unread('%s: %s' % (self.place, head.split('\n')[0] or 'a block of nothing'))
+        return (found.group(1) or '').strip(), found.group(2), found.group(3)
+
+    def bring(self, text):
+        """A `ghost use`, which may stand in a block: a name must not mean two things in one file."""
+        before = dict(self.uses), dict(self.modules)
+        Spec.use(self, ' '.join(text.removeprefix('ghost ').split()))
+        for was, now in zip(before, (self.uses, self.modules)):
+            for name in was:
+                if was[name] != now[name]:
+                    raise Unread('%s: two meanings of %s' % (self.place, name))
+
+    def imports(self, text):
+        """`use a::b::C`, or `use a::b::{C, D as E}`."""
+        found = re.match(r'((?:\w+::)*)(?:\{([^{}]*)\}|(\w+(?: as \w+)?))$', ' '.join(text.split()))
+        if not found:
+            raise Unread('%s: use %s' % (self.place, text))
+        for name in (found.group(2) or found.group(3)).split(','):
+            was, _, now = name.strip().partition(' as ')
+            if was:
+                self.types[now or was] = found.group(1) + was
+
+    def declares(self, kind, after, block):
+        """A struct, an enum, or a `type` line. Its body are the types that it names."""
+        name = re.match(r'\w+', after).group()
+        body = after[len(name):] + ('{%s}' % block if block is not None else ';')
+        item = self.items[name] = Item(self.place, name, kind, [], [])
+        item.body, item.lines = TYPE.findall(body), lines_of(body)
+        item.names = set(re.findall(r'^    (\w+)', block or '', re.M))  # of an enum its variants
+        before = 0
+        for mark, start, end in marks(self.place, block or ''):
+            if mark == '}' and re.search(r'\bghost \w+:\s*$', block[before:start]):
+                item.ghost.append((self, tokens(block[start:end])))
+            before = end
+        if len(item.ghost) != len(re.findall(r'\bghost\b', body)):
+            raise Unread('%s: what is ghost in %s' % (self.place, name))
+
+    def trait(self, after, block, public):
+        """A trait. Its ghost members and its methods' contracts are what it means."""
+        name = re.match(r'\w+', after).group()
+        item = self.items[name] = Item(self.place, name, 'trait', [], [])
+        item.body, item.lines = TYPE.findall(after), lines_of(after) + 1
+        for head, kind, behind in self.members(block):
+            item.lines += lines_of(head)
+            item.body += TYPE.findall(head)
+            item.ghost.append((self, clauses(head)))
+            if kind.endswith('fn'):
+                self.call(behind, name, public)
+
+    def impl(self, after, block):
+        """An `impl`. What is ghost in it goes to a type, of this file or another, when all files are read."""
+        of_trait = len(re.split(r'\bfor\b', after)) > 1
+        for head, kind, behind in self.members(block):
+            if kind == 'ghost':
+                self.ghosts.append((after, head))
+            elif kind.endswith('fn'):
+                own = of_trait and re.search(r'\b(ensures|requires)\b', behind)
+                self.call(behind, after, own or self.begun(head)[0] == 'pub')
+
+    def members(self, block):
+        """The members of a block but for its `ghost use` lines, which are the file's."""
+        out = []
+        for head, _ in pieces(self.place, block):
+            _, kind, behind = self.begun(head)
+            if kind == 'ghost use':
+                self.bring(head)
+            elif kind in ('ghost', 'const') or kind.endswith('fn'):
+                out.append((head, kind, behind))
+            else:
+                raise Unread('%s: %s' % (self.place, head))
+        return out
+
+    def call(self, after, around, public):
+        """A function, of the block whose head is `around`."""
+        if public:
+            name = re.match(r'\w+', after).group()
+            said = after[len(name):]
+            self.calls.append((name, clauses(said), TYPE.findall(around) + TYPE.findall(said)))
+            self.names |= set() if around else {name}
 
 
 # ---- the tree
@@ -248,21 +411,54 @@ class Tree:
             for path in sorted((crate / 'specs').rglob('*.antt')) + sorted((crate / 'proofs').glob('*.antt')):
                 spec = Spec(path)
                 self.specs[spec.place] = spec
-            for path in sorted((crate / 'src').glob('*.rt')):
+            for path in sorted((crate / 'src').rglob('*.rt')):
                 source = Source(path, name)
                 self.sources[source.place] = source
         self.order = {place: k for k, place in enumerate(list(self.specs) + list(self.sources))}
         self.library = {}
+        self.crates = {source.crate for source in self.sources.values()}
+        for source in self.sources.values():
+            for head, text in source.ghosts:
+                item = self.home(source, head)
+                item.ghost.append((source, tokens(text)))
+                item.lines += lines_of(text)
         for spec in self.specs.values():
             for item in spec.items.values():
                 item.theorem = self.proves(spec, item)
 
+    def home(self, source, head):
+        """The type with which the ghost members of an `impl` count: the one that it is of, else its trait."""
+        parts = re.split(r'\bfor\b', re.sub(r'^<[^>]*>', '', head))
+        for part in reversed(parts):
+            found = self.held(source, TYPE.findall(part))
+            if found:
+                return found[0]
+        raise Unread('%s: impl %s' % (source.place, head))
+
     def struct(self, crate, name):
-        """A struct or enum of a crate, by its name."""
-        for source in self.sources.values():
-            if source.crate == crate and name in source.items:
-                return source.items[name]
-        return None
+        """A type of a crate, by its name."""
+        found = [s.items[name] for s in self.sources.values() if s.crate == crate and name in s.items]
+        if len(found) > 1:
+            raise Unread('%s: two types %s' % (crate, name))
+        return found[0] if found else None
+
+    def named(self, source, path):
+        """The type that a path means in a file of src/; None where it is the library's, or a parameter."""
+        path = path.split('::')
+        if len(path) == 1 and path[0] in source.items:
+            return source.items[path[0]]
+        *front, name = source.types.get(path[0], path[0]).split('::') + path[1:]
+        crate = self.crate_of(source, front[0]) if front else source.crate
+        found = self.struct(crate, name) if crate else None
+        if front and crate and not found and not name.isupper():  # no constant: it would be missing in the list
+            raise Unread('%s: no type %s' % (source.place, '::'.join(path)))
+        return found
+
+    def crate_of(self, source, first):
+        """The crate of the repository that a path begins in, or None."""
+        if first in ('crate', 'self', 'super') or '%s/src/%s' % (source.crate, first) in self.sources:
+            return source.crate
+        return first if first in self.crates else None
 
     def resolve(self, file, name):
         """What a name means in a file: an item, a library's name as text, or None."""
@@ -276,10 +472,13 @@ class Tree:
     def item(self, module, name):
         """What a `use` line brings in. A name that is not found would be missing in the list: an error."""
         if isinstance(module, tuple):  # declared in src/
-            place, struct = module
-            if place in self.sources and struct in self.sources[place].items:
-                return self.sources[place].items[struct]
-            raise Unread('%s: no struct %s' % (place, struct))
+            place, struct, within = module
+            found = self.sources[place].items.get(struct) if place in self.sources else None
+            if not found:
+                raise Unread('%s: no struct %s' % (place, struct))
+            if name not in {'': {struct}, 'TheVariants': found.names, 'TheInside': {'Inside'}}[within]:
+                raise Unread('%s: no %s of %s' % (place, name, struct))
+            return found
         if module.startswith('library '):
             return module[len('library '):] + '.' + name
         spec = self.specs.get(module)
@@ -340,7 +539,7 @@ class Tree:
         if word in EVIDENCE:
             return True
         found = self.resolve(file, word)
-        if not isinstance(found, Item) or depth > 8 or found.kind in ('struct', 'enum', 'data'):
+        if not isinstance(found, Item) or depth > 8 or found.place in self.sources or found.kind == 'data':
             return False
         spec = self.specs[found.place]
         if found.kind == 'record':
@@ -368,31 +567,26 @@ class Tree:
                 todo += self.mentions(file, item.around + item.type)
                 continue
             seen[item.key()] = item
-            if item.kind in ('struct', 'enum'):
+            if item.place in self.sources:
                 todo += self.held(file, item.body)
+                for where, words in item.ghost:
+                    todo += self.mentions(where, words)
             else:
                 todo += self.mentions(file, item.around + item.type + item.body)
         return {key: item for key, item in seen.items() if key not in known}
 
-    def held(self, source, words):
-        """The structs that a struct, or a call's parameters, name."""
-        out = []
-        for k, word in enumerate(words):
-            if re.match(r'[A-Z]\w*$', word):
-                crate = source.types.get(word, words[k - 1] if k else source.crate).split('::')[0]
-                found = self.struct(source.crate, word) or self.struct(crate, word)
-                if found:
-                    out.append(found)
-        return out
+    def held(self, source, names):
+        """The types of src/ that a type, or a call's parameters, name."""
+        return [found for found in (self.named(source, name) for name in names) if found]
 
     # ---- the statements
     def contracts(self, counts):
-        """What the contracts of the public functions mention, and the structs of their types."""
+        """What the contracts of the public functions mention, and the types of src/ that they name."""
         out = []
         for source in self.sources.values():
             if counts(source.crate):
-                for words in source.calls.values():
-                    out += self.mentions(source, words) + self.held(source, words)
+                for _, words, types in source.calls:
+                    out += self.mentions(source, words) + self.held(source, types)
         return out
 
     def promised(self):
@@ -401,7 +595,7 @@ class Tree:
         if BEGIN in text and END in text:
             text = text[:text.index(BEGIN)] + text[text.index(END):]
         defined = {i.name for s in self.specs.values() for i in s.items.values() if not i.plain()}
-        defined |= {name for source in self.sources.values() for name in source.calls}
+        defined |= {name for source in self.sources.values() for name in source.names}
         for line in text.split('\n'):
             for quoted in re.findall(r'`([^`]+)`', line):
                 name = quoted.partition(' : ')[0]

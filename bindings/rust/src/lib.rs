@@ -11,10 +11,10 @@
 //! flush-to-zero gets other answers with no refusal; [`environment`] tells.
 //!
 //! **Stack.** [`encode`], [`encode_with`], [`encode_at_scale`], the same three of [`even`] and [`write_page`]
-//! take up to 146 KB of stack (145,080 bytes on x86-64; tools/stack.sh measures it, and no theorem bounds
+//! take up to 137 KB of stack (136,152 bytes on x86-64; tools/stack.sh measures it, and no theorem bounds
 //! it): more than some threads have. Have [`STACK`] bytes left.
 //!
-//! **Memory.** Code and constants of the library take 91 KB on x86-64 (tools/rom.sh measures them).
+//! **Memory.** Code and constants of the library take 82 KB on x86-64 (tools/rom.sh measures them).
 //!
 //! **Threads.** No call keeps anything, allocates or locks: any number of threads may call at once.
 //!

@@ -15,7 +15,7 @@
 // public. Its requests of samples are `scale` and `auto` over fewer points: so these are public too, and are told whether odd points are searched.
 #![tactic(auto)]
 
-ghost use Rattle.std.specs.Prelude.{◌≡◌};
+ghost use Rattle.std.specs.Prelude.{◌≡◌, Ok};
 ghost use Rattle.text.specs.Text.{refused_text};
 ghost use Rattle.refusal.specs.Refusal.{number_of, section_of};
 ghost use Rattle.tetra.specs.Encode.{encoded_by};
@@ -64,11 +64,9 @@ pub fn point_line(y: [i32; 24]) -> Reply
 }
 
 // A refusal that is about a section names it.
-fn refused_point(reason: Refusal) -> Reply
-    ensures { result ≡ refused_point (number_of reason) (section_of reason) }
+fn refused_at(number: u32, section: u32) -> Reply
+    ensures { result ≡ refused_point number section }
 {
-    let number = reason.number();
-    let section = reason.section();
     if section == 0 {
         return refused(number);
     }
@@ -77,6 +75,12 @@ fn refused_point(reason: Refusal) -> Reply
     line.put_decimal(number as u64);
     line.put_line(b" section=", section as u64);
     line
+}
+
+fn refused_point(reason: Refusal) -> Reply
+    ensures { result ≡ refused_point (number_of reason) (section_of reason) }
+{
+    refused_at(reason.number(), reason.section())
 }
 
 // The line of a point's word, or of the reason why it has none.
@@ -95,13 +99,10 @@ pub fn word_line(coded: Result<u64, Refusal>) -> Reply
     }
 }
 
-fn code_line(answer: Result<Code, Refusal>) -> Reply
-    ensures { result ≡ code_line (coded_by answer) }
+// A code that was accepted.
+fn code_text(c: Code) -> Reply
+    ensures { result ≡ code_line (coded_by (Ok c)) }
 {
-    let c = match answer {
-        Ok(c) => c,
-        Err(r) => return refused(r.number()),
-    };
     let mut line = Reply::new();
     line.put(b"word=");
     line.put_hex(c.word, 12);
@@ -111,6 +112,16 @@ fn code_line(answer: Result<Code, Refusal>) -> Reply
     line.put_list(c.point);
     line.put(b"\n");
     line
+}
+
+#[tactic(auto, using(refusal::proofs::Apart::never_zero), unfolding(crate::specs::Answers::code_line))]
+fn code_line(answer: Result<Code, Refusal>) -> Reply
+    ensures { result ≡ code_line (coded_by answer) }
+{
+    match answer {
+        Ok(c) => code_text(c),
+        Err(r) => refused(r.number()),
+    }
 }
 
 fn scales_line(answer: Result<Scales, Refusal>) -> Reply

@@ -47,7 +47,7 @@ impl fmt::Display for Failed {
 // Writes the answers that are held.
 fn write_out(rt: &impl Print, out: &mut Printed<ROOM>) -> Result<(), Failed> {
     rt.write_all(out.as_slice()).map_err(|_| Failed::Write)?;
-    *out = Printed::new();
+    out.clear();
     Ok(())
 }
 
@@ -60,7 +60,7 @@ fn end_line(held: &mut Held) {
         answers::no_request()
     };
     held.out.put(reply.as_slice());
-    held.line = Printed::new();
+    held.line.clear();
 }
 
 fn take(b: u8, held: &mut Held) {

@@ -1,2 +1,4 @@
 pub mod Constants
 pub mod InTurn
+-- no second answer fits
+pub mod Once

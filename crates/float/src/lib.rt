@@ -6,6 +6,8 @@ ghost use Rattle.std.specs.Float.Ieee.Scale.{finite};
 ghost use Rattle.float.specs.Calls.{abs_of, clamped, half_up, rounded, quotients_of};
 ghost use Rattle.float.specs.Laws.Rounding.{Small};
 
+use std::array;
+
 // The Rust's f64::abs: -0.0 gives +0.0, and a NaN a NaN. It is worked out here, and so are `clamp` and `round`, since document 01 asks for it.
 pub fn abs(x: f64) -> f64
     ensures { result ≡ abs_of x }
@@ -61,9 +63,9 @@ pub fn round(z: f64) -> i32
     0
 }
 
-// Each of the 24 numbers divided by s.
+// Each of the 24 numbers divided by s. By place and not by `map`, which takes the array apart first and is several times as slow.
 pub fn quotients(x: [f64; 24], s: f64) -> [f64; 24]
     ensures { result ≡ quotients_of x s }
 {
-    x.map(|v| v / s)
+    array::from_fn(|i| x[i] / s)
 }

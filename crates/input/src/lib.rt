@@ -10,13 +10,15 @@ use std::io;
 use std::io::Read;
 
 // A read that failed, and how many bytes were read before it.
-#[derive(Drop)]
+#[derive(Clone, Copy)]
 pub struct Cut {
     pub count: usize,
     pub error: io::Error,
 }
 
 impl From<Cut> for io::Error {
+    ghost from_gives = { λ cut error. error ≡ cut.error };
+
     fn from(cut: Cut) -> io::Error {
         cut.error
     }

@@ -1,9 +1,10 @@
 // What the program mkpage prints of a text: the page of the trace that it is, or the lines of a refusal.
 #![tactic(auto)]
 
-ghost use Rattle.std.specs.Prelude.{◌≡◌};
+ghost use Rattle.std.specs.Prelude.{◌≡◌, ◌≤◌, cond, eqb, length, take};
 ghost use Rattle.refusal.specs.Refusal.{number_of};
 ghost use Rattle.trace.specs.Reader.{trace_in};
+ghost use Rattle.writer.specs.Writer.{written_by};
 ghost use Rattle.made.specs.Made.{names_block, refused_lines, made};
 
 use refusal::Refusal;
@@ -11,6 +12,7 @@ use text::Printed;
 use writer::Unwritten;
 
 // Whether a refusal is about a block.
+#[tactic(auto, using(crate::proofs::Naming::named, crate::proofs::Naming::other))]
 fn names_block(refusal: Refusal) -> bool
     ensures { result ≡ names_block (number_of refusal) }
 {
@@ -29,6 +31,23 @@ fn refused_lines(why: Unwritten) -> Printed<1189>
     lines
 }
 
+// What is printed for what the writer answers: the page that it left in `bytes`, or the lines of its refusal.
+#[tactic(auto, using(refusal::proofs::Apart::never_zero, crate::proofs::Making::page_alone))]
+fn written_lines(written: Result<usize, Unwritten>, bytes: &[u8]) -> Printed<1189>
+    requires { ((written_by written).length ≤ length bytes.now) × ((written_by written).length ≤ 1189) }
+    ensures { result ≡ cond (eqb (written_by written).number 0) (take (written_by written).length bytes.now)
+        (refused_lines (written_by written).number (written_by written).block) }
+{
+    match written {
+        Ok(length) => {
+            let mut page = Printed::new();
+            page.put(&bytes[..length]);
+            page
+        }
+        Err(why) => refused_lines(why),
+    }
+}
+
 // What the program prints for an input: at most as many bytes as the longest page has. So the writer never refuses it for its room.
 pub fn mkpage(text: &[u8]) -> Printed<1189>
     ensures { result ≡ made (trace_in text.now) }
@@ -38,11 +57,6 @@ pub fn mkpage(text: &[u8]) -> Printed<1189>
         Err(refusal) => return refused_lines(Unwritten { refusal, block: 0 }),
     };
     let mut bytes = [0u8; 1189];
-    let length = match writer::write(trace.num, trace.count, trace.samples(), &mut bytes) {
-        Ok(length) => length,
-        Err(why) => return refused_lines(why),
-    };
-    let mut page = Printed::new();
-    page.put(&bytes[..length]);
-    page
+    let written = writer::write(trace.num, trace.count, trace.samples(), &mut bytes);
+    written_lines(written, &bytes)
 }

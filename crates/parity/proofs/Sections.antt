@@ -46,11 +46,12 @@ module _ (ts : List Float) (p n : ℕ) where
       mid_with_lem (rule_of n) ts p (solve_in (rows_of (table_of ts p))) (λ c w b m h. solve_flat ts p c w b m h) middle_sets i (least n 8)
 
   end_starts : (kind m : ℕ)
-      → tab (end_first (end_of kind ts p m)) 128 ≡ tab (λ (i : ℕ). end_start tables ts kind p (i / 64) (i % 64)) 128
+      → tab (end_first (end_of kind ts p m) (end_bases (end_of kind ts p m))) 128
+      ≡ tab (λ (i : ℕ). end_start tables ts kind p (i / 64) (i % 64)) 128
   end_starts kind m =
       ends_flat ts p kind (end_bases (end_of kind ts p m)) (bases ts p tables.class0 tables.class1 (in_a_row (bytes_of kind)))
 
-  middle_starts : (m : ℕ) → tab (mid_first (middle_of ts p m)) 256 ≡ mid_starts ts p
+  middle_starts : (m : ℕ) → tab (mid_first (middle_of ts p m) (mid_bases (middle_of ts p m))) 256 ≡ mid_starts ts p
   unfolding mid_starts
   middle_starts m = mids_flat ts p middle_sets (mid_bases (middle_of ts p m)) (bases ts p tables.mixed tables.mixed middle_sets)
 
@@ -59,7 +60,8 @@ abbrev kept_of : List Entry → List Entry → List Entry → Float → Kept
 kept_of e1 e2 e3 u = record { sides = record { e1 = e1; e2 = e2; e3 = e3 }; u = u }
 
 abbrev started : End → Middle → End → Float → Kept
-started a b c u = kept_of (tab (end_first a) 128) (tab (mid_first b) 256) (tab (end_first c) 128) u
+started a b c u =
+    kept_of (tab (end_first a (end_bases a)) 128) (tab (mid_first b (mid_bases b)) 256) (tab (end_first c (end_bases c)) 128) u
 
 module _ (t : Targets) (n p : ℕ) (u : Float) where
   abbrev first : End
@@ -77,7 +79,7 @@ module _ (t : Targets) (n p : ℕ) (u : Float) where
       rw (end_starts t.t1 p n 0 (rule_of n).ends, middle_starts t.t2 p n (rule_of n).mids, end_starts t.t3 p n 1 (rule_of n).ends)
 
   pub over_sections : {a c : End} {b : Middle} {e1 e2 e3 : List Entry} {w : Winner} → a ≡ first → b ≡ middle → c ≡ last
-      → e1 ≡ tab (end_first a) 128 → e2 ≡ tab (mid_first b) 256 → e3 ≡ tab (end_first c) 128
+      → e1 ≡ tab (end_first a (end_bases a)) 128 → e2 ≡ tab (mid_first b (mid_bases b)) 256 → e3 ≡ tab (end_first c (end_bases c)) 128
       → w ≡ pass_of (end_full a) (mid_full b) (end_full c) p (kept_of e1 e2 e3 u) → w ≡ parity tables (rule_of n) t p u
   over_sections ha hb hc h1 h2 h3 hw =
       hw ∙ rw (h1, h2, h3, ha, hb, hc)

@@ -39,8 +39,8 @@
 --   the Rust's answers over the even points    `encode_at_over`, `encode_over`,          encoder/specs/Encode
 --                                              `encode_samples_over`
 --   the parities that they search              `even_parities`                         search/specs/Parity
--- The answers are told as records of document 01 (`Coding`, `Scored`, ..): each stands in specs/ of its crate, with what maps an answer to it;
--- the structs that are left (`Encoded`, ..) stand in src/ of theirs.
+-- The answers are told as records of document 01 (`Coding`, `Encoded`, `Scored`, ..): each stands in specs/ of its crate, with what maps an answer to
+-- it (`coded_by`, ..). What is printed is told by the fields that hold it, `Inside` (text/specs/Held).
 use Rattle.score.specs.Scale.{Measured}
 use Rattle.even.specs.Even.{Decoded}
 use Rattle.std.specs.Prelude.{◌≡◌, true, false, ◌≢◌, ◌↔◌, ◌⊎◌, List, ◌++◌, map, ℕ, ◌+◌, ◌*◌, ◌-◌, ◌%◌, ◌^◌, ◌<◌, ◌≤◌, T, ℤ, pos, ◌*ℤ◌, Float, length, get_or, take, drop, replicate}

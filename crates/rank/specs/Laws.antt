@@ -5,3 +5,4 @@ pub mod Bound
 pub mod Section
 pub mod Lookup
 pub mod Refusals
+pub mod Once

@@ -1,2 +1,3 @@
--- no two reasons are told alike
+-- no two reasons are told alike, and so no second answer fits a record
 pub mod Apart
+pub mod Once

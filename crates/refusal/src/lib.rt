@@ -44,20 +44,20 @@ impl Refusal {
         ensures { result ≡ number_of self }
     {
         match self {
-            Refusal::NotFinite => 1,
-            Refusal::TooLarge => 2,
-            Refusal::NoScale => 3,
-            Refusal::TooFar => 4,
-            Refusal::MixedParity => 5,
-            Refusal::TooWide => 6,
-            Refusal::OutOfRange => 7,
-            Refusal::NoRoom => 8,
-            Refusal::NoPage => 9,
-            Refusal::NoCodeword => 10,
-            Refusal::Outside { .. } => 11,
-            Refusal::WrongSum => 12,
-            Refusal::AllOdd => 13,
-            Refusal::Disagrees => 14,
+            Refusal::NotFinite => NOT_FINITE,
+            Refusal::TooLarge => TOO_LARGE,
+            Refusal::NoScale => NO_SCALE,
+            Refusal::TooFar => TOO_FAR,
+            Refusal::MixedParity => MIXED_PARITY,
+            Refusal::TooWide => TOO_WIDE,
+            Refusal::OutOfRange => OUT_OF_RANGE,
+            Refusal::NoRoom => NO_ROOM,
+            Refusal::NoPage => NO_PAGE,
+            Refusal::NoCodeword => NO_CODEWORD,
+            Refusal::Outside { .. } => OUTSIDE,
+            Refusal::WrongSum => WRONG_SUM,
+            Refusal::AllOdd => ALL_ODD,
+            Refusal::Disagrees => DISAGREES,
         }
     }
 

@@ -2,12 +2,12 @@
 use mathlib.Core.Path.{◌≡◌, refl, sym, ◌∙◌}
 use mathlib.Core.Bool.{Bool, true, false, cond}
 use mathlib.Core.List.{List, [], ◌∷◌, ◌++◌}
-use Prim.Native.Nat.{ℕ, suc, ◌+◌, ◌-◌, ◌<◌, ◌≤◌}
+use Prim.Native.Nat.{ℕ, suc, ◌+◌, ◌*◌, ◌^◌, ◌-◌, ◌<◌, ◌≤◌}
 use native.Mathlib.Omega.{arith}
-use borrow.Author.Tests.{ltb-true, ltb-false}
+use borrow.Author.Tests.{lt-ltb, le-ltb, ltb-true, ltb-false}
 use lib.Dec.{eqb, ltb}
 use Rattle.std.specs.Char.{to_ascii_lowercase}
-use Rattle.std.specs.Prelude.{Option, Some, None}
+use Rattle.std.specs.Prelude.{Option, Some, None, SomeIff}
 use lib.ListN.{length, get_or, take, drop, drop_of_length-le}
 use lib.Seq.{take_all}
 use Rattle.laws.specs.Laws.Lists.{drop-next}
@@ -68,3 +68,11 @@ lower_digit b = go (ltb b 65) (ltb 70 b) (ltb b 91) refl refl refl
     go false true false hp hq hr = refl
     go false false true hp hq hr = refl
     go false false false hp hq hr = absurd (omega (arith, ltb-false 70 b hq, ltb-false b 91 hr))
+
+-- ---- one digit more: a sum that was tested, and a product that is past 64 bits already
+pub tested : (r : Option ℕ) (n : ℕ) → SomeIff r (n < 2 ^ 64) n → r ≡ cond (ltb n (2 ^ 64)) (Some n) None
+tested None n h = rw (le-ltb n (2 ^ 64) (omega (arith, h)))
+tested (Some m) n h = rw (lt-ltb n (2 ^ 64) h.0, h.1)
+
+pub too_large : (v base d : ℕ) → SomeIff None (v * base < 2 ^ 64) (v * base) → None ≡ cond (ltb (v * base + d) (2 ^ 64)) (Some (v * base + d)) None
+too_large v base d h = rw (le-ltb (v * base + d) (2 ^ 64) (omega (arith, h)))

@@ -49,6 +49,7 @@ fn digit(b: u8, base: u64) -> Option<u64>
 }
 
 // v with one digit more, where that fits.
+#[tactic(auto, using(crate::proofs::Steps::tested, crate::proofs::Steps::too_large), unfolding(crate::specs::Words::more_of))]
 fn more(v: u64, b: u8, base: u64) -> Option<u64>
     ensures { result ≡ more_of base v b }
 {

@@ -1,16 +1,21 @@
 -- Entries closed in place, from the first on: what holds of them once those before i are done. Assumes nothing.
 use mathlib.Core.Path.{◌≡◌, refl, ◌∙◌, ap}
 use mathlib.Core.List.{List}
-use Prim.Native.Nat.{ℕ, ◌+◌, ◌<◌, ◌≤◌}
+use Prim.Native.Nat.{ℕ, ◌+◌, ◌%◌, ◌<◌, ◌≤◌}
 use native.Mathlib.Omega.{arith}
 use lib.ListN.{length, get_or, set}
 use lib.Ieee.{Float, nan, lt}
 use Rattle.std.proofs.Common.{get_or-set_other}
+use Rattle.std.proofs.Math.Nat.{mod-eq_of_lt}
 use Rattle.laws.specs.Laws.Filled.{Filled, fill_none, fill_more}
 use Rattle.search.specs.declared.Entry.{Entry}
 use Rattle.search.specs.Join.{no_entry, ent_at}
 use Rattle.search.specs.Parity.{closed}
 use Rattle.resolve.specs.Inner.Flat.{closed_with}
+
+-- a place of n is its own remainder
+pub own_remainder : (i n : ℕ) → i < n → i % n ≡ i
+own_remainder i n l = mod-eq_of_lt l
 
 -- xs are the n entries e, of which the first i are closed
 pub record Closed (e : List Entry) (b : List Float) (u : Float) (new : ℕ → Entry) (n i : ℕ) (xs : List Entry) : Type 0 where

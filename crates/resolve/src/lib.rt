@@ -4,7 +4,7 @@
 // the entries is written once, for both.
 #![tactic(auto)]
 
-ghost use Rattle.std.specs.Prelude.{◌≡◌, ◌<◌, ℕ, List};
+ghost use Rattle.std.specs.Prelude.{◌≡◌, ◌<◌, ◌%◌, ℕ, List};
 ghost use Rattle.laws.specs.Words.{tab};
 ghost use Rattle.rank.specs.Answers.{packed_of};
 ghost use Rattle.search.specs.declared.Entry.{Entry};
@@ -46,7 +46,7 @@ pub struct Middle {
 pub trait Section<const N: usize> {
     ghost bases: { Self → List Pair };
 
-    ghost start: { Self → ℕ → Entry };
+    ghost start: { Self → List Pair → ℕ → Entry };
 
     ghost full: { Self → ℕ → Entry };
 
@@ -54,16 +54,13 @@ pub trait Section<const N: usize> {
     fn bases(&self) -> [Pair; 128]
         ensures { result ≡ bases self.now };
 
-    // Entry i as it starts: what the bases say of it.
+    // Entry i as it starts, where the bases are `pairs`: what they say of it. Past the end the entries come round again.
     fn start(&self, pairs: &[Pair; 128], i: usize) -> Entry
-        requires place { i < N }
-        requires made { pairs.now ≡ bases self.now }
-        ensures { result ≡ start self.now i };
+        ensures { result ≡ start self.now pairs.now (i % N) };
 
-    // Entry i resolved in full: what the rule finds.
+    // Entry i resolved in full: what the rule finds. Past the end the entries come round again.
     fn full(&self, i: usize) -> Entry
-        requires { i < N }
-        ensures { result ≡ full self.now i };
+        ensures { result ≡ full self.now (i % N) };
 }
 
 // ---- the bounds
@@ -236,6 +233,7 @@ impl Section<128> for End {
     }
 
     fn start(&self, pairs: &[Pair; 128], i: usize) -> Entry {
+        let i = i % 128;
         let f = self.fall[i];
         let q0 = pairs[2 * (i % 64)];
         let q1 = pairs[2 * (i % 64) + 1];
@@ -246,6 +244,7 @@ impl Section<128> for End {
 
     #[tactic(auto, unfolding(crate::specs::Inner::Flat::end_with))]
     fn full(&self, i: usize) -> Entry {
+        let i = i % 128;
         let f = self.fall[i];
         let c0 = self.bytes[i % 64][0];
         let c1 = self.bytes[i % 64][1];
@@ -267,11 +266,13 @@ impl Section<256> for Middle {
     }
 
     fn start(&self, pairs: &[Pair; 128], i: usize) -> Entry {
+        let i = i % 256;
         let q = pairs[i / 2];
         mid_start(q, i % 2, self.sets[i / 2])
     }
 
     fn full(&self, i: usize) -> Entry {
+        let i = i % 256;
         mid_resolve(&self.rows, self.sets[i / 2], i % 2, self.shrinks)
     }
 }
@@ -279,7 +280,7 @@ impl Section<256> for Middle {
 // ---- the entries of a section
 // The entries as they start.
 pub fn starts<const N: usize, S: Section<N>>(section: &S) -> [Entry; N]
-    ensures { result ≡ tab (S.start section.now) N }
+    ensures { result ≡ tab (S.start section.now (S.bases section.now)) N }
 {
     let pairs = section.bases();
     let mut out = [Entry::infeasible(); N];
@@ -290,6 +291,7 @@ pub fn starts<const N: usize, S: Section<N>>(section: &S) -> [Entry; N]
 }
 
 // Entry i resolved where it is not exact; no entry where i is past the end.
+#[tactic(auto, using(crate::proofs::InPlace::own_remainder))]
 pub fn seed<const N: usize, S: Section<N>>(section: &S, entries: &mut [Entry; N], i: usize)
     ensures { entries.new ≡ fixed entries.old i (S.full section.now i) }
 {
@@ -302,6 +304,7 @@ pub fn seed<const N: usize, S: Section<N>>(section: &S, entries: &mut [Entry; N]
 }
 
 // An exact entry stays; one whose best path is under the best cost known is resolved; the rest are dropped.
+#[tactic(auto, using(crate::proofs::InPlace::own_remainder))]
 fn closed<const N: usize, S: Section<N>>(section: &S, i: usize, e: Entry, under: bool) -> Entry
     requires { i < N }
     ensures { result ≡ closed e under (S.full section.now i) }

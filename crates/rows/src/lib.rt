@@ -79,14 +79,14 @@ fn look(back: bool, x: u32) -> Option<u32>
     None
 }
 
-// Row `i`, packed. 0 past the table and no Option: the clause says so of every `i`.
+// Row `i`, packed. 0 past the table and no Option: the clause says so of every `i`. The table is not made for a place past it.
 pub fn row(i: usize) -> u32
     ensures { result ≡ get_or rows i 0 }
 {
-    match u32::try_from(i) {
-        Ok(x) => look(false, x).unwrap_or(0),
-        Err(_) => 0,
+    if i < ROWS as usize {
+        return look(false, i as u32).unwrap_or(0);
     }
+    0
 }
 
 // The number of the row packed in `w`, if there is one.

@@ -1,5 +1,5 @@
 -- each file over those before it: the refusals, and what they keep finite; the largest magnitude, the norm and the scale; quotients below 16; the
--- choice that samples give, and any other; finite scores; worked examples
+-- choice that samples give, and any other; finite scores; worked examples; no second answer
 pub mod Sample
 pub mod Finite
 pub mod Largest
@@ -10,3 +10,4 @@ pub mod Choice
 pub mod Chosen
 pub mod Score
 pub mod Examples
+pub mod Once

@@ -11,6 +11,7 @@ ghost use Rattle.score.specs.Scale.{larger, largest_of, unit_norm, scale_with, i
 ghost use Rattle.score.specs.Choice.{chosen_by, chosen, nonzero, is_pair, is_division, pair_number, number_for, choice_number};
 
 use refusal::Refusal;
+use std::array;
 
 // The largest magnitude of samples, and the lower of the two scales at which they are coded.
 #[derive(Clone, Copy)]
@@ -89,11 +90,11 @@ fn dot(a: &[f64; 24], b: &[f64; 24]) -> f64
         .fold(0.0, |sum, (x, y)| sum + *x * *y)
 }
 
-// Each as a double, which is exact.
+// Each as a double, which is exact. By place, as float's quotients.
 pub fn doubles(y: [i32; 24]) -> [f64; 24]
     ensures { result ≡ doubles_of y }
 {
-    y.map(f64::from)
+    array::from_fn(|j| f64::from(y[j]))
 }
 
 fn over_root(d: f64, nn: f64) -> f64

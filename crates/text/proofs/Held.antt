@@ -1,9 +1,9 @@
 -- One more piece at the end of a text in an array of n bytes. Assumes nothing.
-use Rattle.std.proofs.Common.{◌≡◌, refl, sym, ap, ◌∙◌, Bool, true, false, cond, List, ◌++◌, ℕ, ◌+◌, ◌-◌, ◌≤◌, length, take, replicate, length-append, zero-add, arith}
+use Rattle.std.proofs.Common.{◌≡◌, refl, sym, ap, ap₂, ◌∙◌, Bool, true, false, cond, List, ◌++◌, ℕ, ◌+◌, ◌-◌, ◌≤◌, length, take, drop, replicate, length-append, zero-add, arith}
 use Rattle.std.proofs.Math.Dec.{leb}
-use Rattle.std.proofs.lemmas.List.{length-replicate}
+use Rattle.std.proofs.lemmas.List.{length-replicate, replicate-append-replicate}
 use Rattle.std.proofs.lemmas.List.Edits.{sets}
-use Rattle.std.proofs.Math.Seq.{take-append_seam}
+use Rattle.std.proofs.Math.Seq.{take-append_seam, drop-append_seam}
 use borrow.Author.Tests.{lt-leb, leb-true}
 use Rattle.laws.specs.Laws.Lists.{sets-append}
 use Rattle.text.specs.declared.printed.Printed.TheInside.{Inside}
@@ -45,6 +45,31 @@ fields_after n text piece h behind array e s = rw (e, s, size) (go (leb (length 
         (in_array n (cond b (text ++ piece) text))
     go true room = rw (room, behind_text n text piece (leb-true _ _ room), length-append text piece) refl
     go false room = rw (lt-leb (n + 1) n (omega arith)) refl
+
+-- no text: zeros in the place of the one that was held
+pub cleared : (n : ℕ) (p : Inside n) → IsHeld p → (front : List ℕ) → front ≡ replicate (length (held p)) 0
+    → IsHeld {n = n} (record { length = 0; bytes = front ++ drop p.length p.bytes })
+cleared n p ok front e = (omega arith, ap (λ (b : List ℕ). record { length = 0; bytes = b }) zeros)
+  where
+    text : List ℕ
+    text = held p
+
+    a : p.length ≡ length text
+    a = ap (λ (q : Inside n). q.length) ok.1
+
+    behind : drop p.length p.bytes ≡ replicate (n - length text) 0
+    behind =
+        ap₂ (λ (k : ℕ) (m : List ℕ). drop k m) a (ap (λ (q : Inside n). q.bytes) ok.1)
+        ∙ drop-append_seam text (replicate (n - length text) 0)
+
+    all_of : length text + (n - length text) ≡ n - 0
+    all_of = omega (arith, a, ok.0)
+
+    zeros : front ++ drop p.length p.bytes ≡ replicate (n - 0) 0
+    zeros =
+        ap₂ (λ (s t : List ℕ). s ++ t) e behind
+        ∙ replicate-append-replicate (length text) (n - length text) 0
+        ∙ ap (λ (k : ℕ). replicate k 0) all_of
 
 -- the text stays within the array
 appended-fits : (n : ℕ) (text piece : List ℕ) → length text ≤ n → length (appended n text piece) ≤ n

@@ -3,3 +3,4 @@ pub mod Signs
 pub mod Rows
 pub mod Digits
 pub mod Held
+pub mod Copied

@@ -14,6 +14,7 @@ pub fn byte_at(s: &[u8], at: usize) -> u8
 }
 
 // Whether the text begins with the key.
+#[tactic(auto, using(crate::proofs::Reading::begins_is))]
 pub fn starts(s: &[u8], key: &[u8]) -> bool
     ensures { result ≡ begins s.now key.now }
 {

@@ -49,6 +49,14 @@ impl<const N: usize> Printed<N> {
         }
     }
 
+    // No text again. What is cleared is the text and not the whole array: the bytes behind it are zeros.
+    pub fn clear(&mut self)
+        ensures { self.new ≡ [] }
+    {
+        self.bytes[..self.length].fill(0);
+        self.length = 0;
+    }
+
     pub fn as_slice(&self) -> &[u8]
         ensures value { result.now ≡ self.now }
         ensures fits { length result.now ≤ N }

@@ -6,6 +6,7 @@ ghost use Rattle.text.specs.Text.{decimal, hex_digit, hex, signed as Text·signe
 
 use crate::number::magnitude;
 
+#[tactic(auto, using(crate::proofs::Copied::in_place))]
 pub(crate) fn copy(out: &mut [u8], at: usize, text: &[u8]) -> usize
     requires { at + length text.now ≤ length out.old }
     ensures { (result ≡ at + length text.now) ×

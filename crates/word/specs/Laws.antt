@@ -7,8 +7,9 @@ use Rattle.std.proofs.Math.Arith.{digits_div, digits_mod}
 use Rattle.std.proofs.lemmas.Nat.{mod-pow-add}
 use Rattle.laws.specs.Laws.Tests.{is_true, is_false}
 use Rattle.refusal.specs.declared.Refusal.{Refusal}
+use Rattle.refusal.proofs.Once.{Tells, tells, tells-record, once}
 use Rattle.word.specs.declared.Fields.{Fields}
-use Rattle.word.specs.Word.{field_at, fields_of, fits, Narrow, word_of, joined_by, join_of}
+use Rattle.word.specs.Word.{field_at, fields_of, fits, Narrow, word_of, Joined, joined_by, join_of}
 
 -- ---- the test and the facts
 pub fits-narrow : (f : Fields) → fits f ≡ true → Narrow f
@@ -160,3 +161,13 @@ no_gain-lt f n e = omega arith
 pub word_or_zero : (r : Result ℕ Refusal) → result_unwrap_or r 0 ≡ (joined_by r).word
 word_or_zero (Ok w) = refl
 word_or_zero (Err e) = refl
+
+-- no second answer fits
+join-tells : (f : Fields) → Tells (join_of f).number
+unfolding join_of
+join-tells f = tells-record (λ (r : Joined). r.number) (fits f) _ _ (tells 0 refl) (tells 6 refl)
+
+pub one_answer : (f : Fields) (a b : Result ℕ Refusal) → joined_by a ≡ join_of f → joined_by b ≡ join_of f → a ≡ b
+one_answer f =
+    once joined_by (λ (r : Joined). r.number)
+    (record { accepted = λ v. refl; refused = λ r. refl; same = λ v w e. ap (λ (r : Joined). r.word) e }) (join_of f) (join-tells f)

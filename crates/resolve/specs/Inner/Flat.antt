@@ -90,12 +90,12 @@ base_entry b c = record { value = b.d; exact = b.met; byte = c; key = b.key }
 abbrev pub mid_start_with : List Pair → List ℕ → ℕ → Entry
 mid_start_with q sets i = base_entry (of_parity (pair_at q (i / 2)) (i % 2)) (get_or sets (i / 2) 0)
 
--- ---- the two kinds of section: the bases of their bytes, entry i as it starts, and entry i resolved in full
+-- ---- the two kinds of section: the bases of their bytes, entry i as it starts where the bases are q, and entry i resolved in full
 abbrev pub end_bases : End → List Pair
 end_bases s = tab (λ (j : ℕ). pair_in s.rows (get_or (in_a_row s.bytes) j 0) tables.class0 tables.class1) 128
 
-abbrev pub end_first : End → ℕ → Entry
-end_first s i = start_with (end_bases s) s.bytes s.fall i
+abbrev pub end_first : End → List Pair → ℕ → Entry
+end_first s q i = start_with q s.bytes s.fall i
 
 abbrev pub end_full : End → ℕ → Entry
 end_full s i = end_with tables (solve_in s.rows) s.bytes s.fall s.shrinks i
@@ -103,8 +103,8 @@ end_full s i = end_with tables (solve_in s.rows) s.bytes s.fall s.shrinks i
 abbrev pub mid_bases : Middle → List Pair
 mid_bases s = tab (λ (j : ℕ). pair_in s.rows (get_or s.sets j 0) tables.mixed tables.mixed) 128
 
-abbrev pub mid_first : Middle → ℕ → Entry
-mid_first s i = mid_start_with (mid_bases s) s.sets i
+abbrev pub mid_first : Middle → List Pair → ℕ → Entry
+mid_first s q i = mid_start_with q s.sets i
 
 abbrev pub mid_full : Middle → ℕ → Entry
 mid_full s i = mid_with tables (solve_in s.rows) s.sets s.shrinks i

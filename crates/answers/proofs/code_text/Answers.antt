@@ -1,20 +1,15 @@
--- `code_line` meets its contract. Assumes nothing.
+-- `code_text` meets its contract: piece by piece. Assumes nothing.
 use Rattle.std.proofs.Common.{◌∙◌, lit≤, append_assoc}
-use Rattle.refusal.proofs.Apart.{never_zero}
 use Rattle.text.specs.Text.{bytes, listed}
 use Rattle.text.specs.Doubles.{bits_shown}
 use Rattle.text.specs.Laws.Printed.{said-none, said-text, said-hex, said-more}
 use Rattle.answers.specs.Answers.{code_line}
-use Rattle.answers.proofs.code_line.Goals as goal
-
-pub returns-in-Err : goal.returns-in-Err
-unfolding code_line
-returns-in-Err c = rw (c.in-Err.is, never_zero c.in-Err.r, ← c.number.ensures) c.refused.ensures
+use Rattle.answers.proofs.code_text.Goals as goal
 
 pub returns : goal.returns
 unfolding code_line
 returns c =
-    let a = c.in-Ok.c in
+    let a = c.args.c in
     let y = listed a.point in
     let l1 = said-text (said-none c.new-line.ensures) (bytes "word=") (lit≤ tt) c.put.ensures in
     let l2 = said-hex l1 12 a.word (lit≤ tt) c.put_hex.ensures in
@@ -23,4 +18,4 @@ returns c =
     let l5 = said-text l4 (bytes " point=") (lit≤ tt) c.put-3.ensures in
     let l6 = said-more l5 y 288 c.put_list.ensures.most (lit≤ tt) c.put_list.ensures.after in
     let l7 = said-text l6 (bytes "\n") (lit≤ tt) c.put-4.ensures in
-    rw c.in-Ok.is (l7.is ∙ simp append_assoc)
+    l7.is ∙ simp append_assoc

@@ -1,4 +1,4 @@
--- `names_block` meets its contract: reason by reason. Assumes nothing.
+-- Which refusals are about a block: reason by reason. Assumes nothing.
 use mathlib.Core.Path.{◌≡◌, refl}
 use mathlib.Core.Bool.{true, false}
 use mathlib.Core.Logic.{◌⊎◌, inl, inr}
@@ -6,14 +6,13 @@ use Rattle.refusal.specs.declared.Refusal.{Refusal}
 use Rattle.refusal.specs.declared.Refusal.TheVariants.{NotFinite, TooLarge, NoScale, TooFar, MixedParity, TooWide, OutOfRange, NoRoom, NoPage, NoCodeword, Outside, WrongSum, AllOdd, Disagrees}
 use Rattle.refusal.specs.Refusal.{number_of}
 use Rattle.made.specs.Made.{names_block}
-use Rattle.made.proofs.names_block.Goals as goal
 
-named : (r : Refusal) → (r ≡ TooLarge) ⊎ (r ≡ TooFar) → true ≡ names_block (number_of r)
+pub named : (r : Refusal) → (r ≡ TooLarge) ⊎ (r ≡ TooFar) → true ≡ names_block (number_of r)
 unfolding names_block
 named r (inl e) = rw e refl
 named r (inr e) = rw e refl
 
-other : (r : Refusal) → (r ≡ TooLarge → ⊥) → (r ≡ TooFar → ⊥) → false ≡ names_block (number_of r)
+pub other : (r : Refusal) → (r ≡ TooLarge → ⊥) → (r ≡ TooFar → ⊥) → false ≡ names_block (number_of r)
 unfolding names_block
 other NotFinite h k = refl
 other TooLarge h k = absurd (h refl)
@@ -29,9 +28,3 @@ other (Outside section) h k = refl
 other WrongSum h k = refl
 other AllOdd h k = refl
 other Disagrees h k = refl
-
-pub returns-in-TooLarge : goal.returns-in-TooLarge
-returns-in-TooLarge c = named c.args.refusal c.in-TooLarge.is
-
-pub returns-in_default : goal.returns-in_default
-returns-in_default c = other c.args.refusal c.in_default.not-TooLarge c.in_default.not-TooFar
